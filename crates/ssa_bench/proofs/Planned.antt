@@ -91,11 +91,11 @@ module _ (bench : Bench) (who : Text) (v : Json) (go : Body → Answer) where
 -- what is prepared of a change of a state, under a label
 pub record IsRecorded (before : State) (label : Label) (change : Change) (p : Prepared) : Type 0 where
   -- its label is the one that was given
-  pub label_is : p.step.label ≡ label
+  pub label_is : p.step.value.1 ≡ label
   -- its record is that of the state and the one after the change
-  pub record_is : state_steps p.step.delta ≡ record_of before (changed_state before change.body change.comparison.removed change.table)
+  pub record_is : state_steps p.step.value.0 ≡ record_of before (changed_state before change.body change.comparison.removed change.table)
   -- it has the room that turning the state by the record wants
-  pub room : HasStateRoom p.step.delta before
+  pub room : HasStateRoom p.step.value.0 before
   -- what it tells of what changed is what the change changes
   pub changed_is : changed_view p.changed ≡ changed_by before change
 
@@ -149,7 +149,7 @@ module _ (bench : Bench) (word : Text) (label : Label) where
       let kind = bench.schema.kind in
       let target = changed_state before change.body change.comparison.removed change.table in
       let same : target ≡ after = λ i. record { body = is.body_is i; table = is.table_leads.leads i } in
-      let leads = led-by kind (state_steps p.step.delta) before target made.record_is now kept.valid kept.order in
+      let leads = led-by kind (state_steps p.step.value.0) before target made.record_is now kept.valid kept.order in
       let led : led_to bench p ≡ target = leads.led in
       let compared : comparison before after ≡ changed_by before change =
       λ i. record {

@@ -59,7 +59,7 @@ IsGivenState (Err f) given = IsGiven {A = operations.State} (Err f) given
 
 -- the state to which the prepared record leads
 abbrev pub led_to : model.Bench → Prepared → operations.State
-led_to bench p = carry (state_steps p.step.delta) (present bench.timeline)
+led_to bench p = carry (state_steps p.step.value.0) (present bench.timeline)
 
 -- the new state is valid
 abbrev pub LeadsToValid : model.Bench → Prepared → Type 0
@@ -67,7 +67,7 @@ LeadsToValid bench p = IsValidState bench.schema.kind (led_to bench p)
 
 -- the bench with the new state behind its present one
 abbrev pub next_bench : model.Bench → Prepared → model.Bench
-next_bench bench p = with_timeline bench (appended bench.timeline (label_view p.step.label) (led_to bench p))
+next_bench bench p = with_timeline bench (appended bench.timeline (label_view p.step.value.1) (led_to bench p))
 
 -- what a change of a state changes
 abbrev pub changed_by : operations.State → Change → answers.Changed
@@ -101,8 +101,8 @@ pub record IsAccepted (bench : model.Bench) (p : Prepared) (given : Answer) (wor
   pub reply : given.0 ≡ answers.changed word (changed_view p.changed)
   pub next : given.1 ≡ next_bench bench p
   pub valid : LeadsToValid bench p
-  pub fits : IsTaken (state_steps p.step.delta) (present bench.timeline) (led_to bench p)
-  pub room : HasStateRoom p.step.delta (present bench.timeline)
+  pub fits : IsTaken (state_steps p.step.value.0) (present bench.timeline) (led_to bench p)
+  pub room : HasStateRoom p.step.value.0 (present bench.timeline)
   pub back : HasTableBack (led_to bench p)
 
 -- the answer to a command on this bench, as it is now, tells what is prepared

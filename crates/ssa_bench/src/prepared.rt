@@ -16,7 +16,6 @@ use ssa_merge::change::Change;
 use ssa_merge::state::State;
 use ssa_path::field_set::FieldSet;
 use ssa_turn::label::Label;
-use ssa_turn::timeline::Step;
 use ssa_turn_state::live_state::StateDelta;
 use std::alloc::{AllocError, Global};
 
@@ -37,7 +36,9 @@ pub struct Changed {
 #[derive(Drop)]
 pub struct Prepared {
     pub changed: Changed,
-    pub step: Step,
+    /// The record that leads from the state before the command to the one that it makes, and the command's label, in the box
+    /// in which the history keeps them.
+    pub step: Box<(StateDelta, Label)>,
 }
 
 /// How many commands can be undone, and how many redone.
@@ -68,9 +69,9 @@ pub(crate) fn accepted(
     requires read { HasReadPaths readings (state_view state.now).body }
     requires leads { LeadsTo (state_view state.now).table change.table (changed_table change.table (state_view state.now).table) }
     requires order { KeepsOrder (state_view state.now).table (changed_table change.table (state_view state.now).table) }
-    ensures label { IfOk result (λ p. p.step.label ≡ label) }
-    ensures record { IfOk result (λ p. state_steps p.step.delta ≡ record_of (state_view state.now) (changed_state (state_view state.now) change.body change.comparison.removed change.table)) }
-    ensures room { IfOk result (λ p. HasStateRoom p.step.delta (state_view state.now)) }
+    ensures label { IfOk result (λ p. p.step.value.1 ≡ label) }
+    ensures record { IfOk result (λ p. state_steps p.step.value.0 ≡ record_of (state_view state.now) (changed_state (state_view state.now) change.body change.comparison.removed change.table)) }
+    ensures room { IfOk result (λ p. HasStateRoom p.step.value.0 (state_view state.now)) }
     ensures back { HasTableBack (state_view state.now) → HasTableBack (changed_state (state_view state.now) change.body change.comparison.removed change.table) }
     ensures changed { IfOk result (λ p. changed_view p.changed ≡ changed_by (state_view state.now) change) }
 {
@@ -88,8 +89,6 @@ pub(crate) fn accepted(
         removed: comparison.removed,
         managers,
     };
-    Ok(Prepared {
-        changed,
-        step: Step { label, delta },
-    })
+    let step = Box::new(alloc, (delta, label))?;
+    Ok(Prepared { changed, step })
 }

@@ -16,8 +16,26 @@ use ssa_record::read_record::RecordAnswer;
 use ssa_schema::fault::SchemaFault;
 use ssa_schema::schema::Schema;
 use ssa_turn::label::Label;
-use ssa_turn::timeline::Step;
+use ssa_turn_state::live_state::StateDelta;
 use std::alloc::{AllocError, Global};
+
+// A command, and the record that leads from the state before it to the one that it makes.
+#[derive(Drop)]
+pub(crate) struct Step {
+    pub(crate) label: Label,
+    pub(crate) delta: StateDelta,
+}
+
+impl Step {
+    // The record and the label in one box, as the history keeps them.
+    pub(crate) fn boxed(self, alloc: Global) -> Result<Box<(StateDelta, Label)>, AllocError>
+        ensures { IfOk result (λ b. b.value ≡ (self.delta, self.label)) }
+    {
+        let Step { label, delta } = self;
+        let boxed = Box::new(alloc, (delta, label))?;
+        Ok(boxed)
+    }
+}
 
 // Why the text is no bench's, where an object is refused.
 pub(crate) fn load_fault(fault: Fault) -> LoadFault

@@ -63,17 +63,17 @@ impl<T: Reversible, L: Drop> Journal<T, L> {
     }
 
     /// Takes the value to where the record leads, and keeps the record that leads back under the
-    /// label. The records of the future are dropped.
+    /// label. The records of the future are dropped. The record comes in the box in which it stays.
     ///
     /// All memory that a later undo or redo wants for the journal itself is taken here. Where it
     /// is refused, or the turn is, the record is dropped and all else is as it was.
-    pub fn record(&mut self, value: &mut T, delta: T::Delta, label: L) -> Result<(), AllocError>
+    pub fn record(&mut self, value: &mut T, entry: Box<(T::Delta, L)>) -> Result<(), AllocError>
         requires whole { GoesWith self.old (T.meaning value.old) }
-        requires fits { T.takes (T.steps delta) (T.meaning value.old) (T.target (T.steps delta) (T.meaning value.old)) }
-        requires room { T.has_room delta (T.meaning value.old) }
+        requires fits { T.takes (T.steps entry.value.0) (T.meaning value.old) (T.target (T.steps entry.value.0) (T.meaning value.old)) }
+        requires room { T.has_room entry.value.0 (T.meaning value.old) }
         ensures whole { GoesWith self.new (T.meaning value.new) }
         ensures ok { OnOk result (timeline_of self.new (T.meaning value.new)
-            ≡ recorded (timeline_of self.old (T.meaning value.old)) (T.target (T.steps delta) (T.meaning value.old)) label) }
+            ≡ recorded (timeline_of self.old (T.meaning value.old)) (T.target (T.steps entry.value.0) (T.meaning value.old)) entry.value.1) }
         ensures err { OnErr result ((value.new ≡ value.old) × HoldsSame self.new self.old) }
     {
         let places = self.past.len() + 1;
@@ -82,7 +82,7 @@ impl<T: Reversible, L: Drop> Journal<T, L> {
         if waiting < places {
             self.future.reserve(places - waiting)?;
         }
-        let mut back = Box::new(*self.past.allocator(), (delta, label))?;
+        let mut back = entry;
         value.turn(&mut back.0)?;
         self.future.clear();
         push_within(&mut self.past, back);
@@ -90,25 +90,26 @@ impl<T: Reversible, L: Drop> Journal<T, L> {
     }
 
     /// Takes the value, from which no record leads back, to where the record leads, and keeps the record
-    /// that leads forward again under the label, as the next to be redone.
+    /// that leads forward again under the label, as the next to be redone. The record comes in the box in
+    /// which it stays.
     ///
     /// All memory that a later undo or redo wants for the journal itself is taken here. Where it
     /// is refused, or the turn is, the record is dropped and all else is as it was.
-    pub fn precede(&mut self, value: &mut T, delta: T::Delta, label: L) -> Result<(), AllocError>
+    pub fn precede(&mut self, value: &mut T, entry: Box<(T::Delta, L)>) -> Result<(), AllocError>
         requires whole { GoesWith self.old (T.meaning value.old) }
         requires first { past_of self.old ≡ [] }
-        requires fits { T.takes (T.steps delta) (T.meaning value.old) (T.target (T.steps delta) (T.meaning value.old)) }
-        requires room { T.has_room delta (T.meaning value.old) }
+        requires fits { T.takes (T.steps entry.value.0) (T.meaning value.old) (T.target (T.steps entry.value.0) (T.meaning value.old)) }
+        requires room { T.has_room entry.value.0 (T.meaning value.old) }
         ensures whole { GoesWith self.new (T.meaning value.new) }
         ensures ok { OnOk result (timeline_of self.new (T.meaning value.new)
-            ≡ preceded (timeline_of self.old (T.meaning value.old)) (T.target (T.steps delta) (T.meaning value.old)) label) }
+            ≡ preceded (timeline_of self.old (T.meaning value.old)) (T.target (T.steps entry.value.0) (T.meaning value.old)) entry.value.1) }
         ensures first { OnOk result (past_of self.new ≡ []) }
         ensures err { OnErr result ((value.new ≡ value.old) × HoldsSame self.new self.old) }
     {
         let places = self.future.len() + 1;
         self.future.reserve(1)?;
         self.past.reserve(places)?;
-        let mut forward = Box::new(*self.future.allocator(), (delta, label))?;
+        let mut forward = entry;
         value.turn(&mut forward.0)?;
         push_within(&mut self.future, forward);
         Ok(())

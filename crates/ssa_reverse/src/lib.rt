@@ -7,7 +7,8 @@
 //! ```
 //! let mut counter = Counter { count: 1 };
 //! let mut journal = Journal::<Counter, &str>::new(rt.alloc());
-//! journal.record(&mut counter, 2, "set to two")?;
+//! let entry = Box::new(rt.alloc(), (2, "set to two"))?;
+//! journal.record(&mut counter, entry)?;
 //! assert!(rt; journal.undo(&mut counter)?);
 //! assert_eq!(rt; counter.count, 1);
 //! assert!(rt; journal.redo(&mut counter)?);

@@ -4,7 +4,7 @@ ghost use Rattle.ssa_reverse.specs.Journals.{GoesWith, past_of};
 
 use ssa_reverse::journal::Journal;
 use ssa_reverse::reversible::Reversible;
-use std::alloc::AllocError;
+use std::alloc::{AllocError, Global};
 use std::mem;
 
 // A number that a record replaces.
@@ -119,16 +119,23 @@ fn forth(
     Ok((moved, counter.count))
 }
 
+// A record and its label in a box.
+fn boxed(alloc: Global, number: u32, label: u8) -> Result<Box<(u32, u8)>, AllocError> {
+    let boxed = Box::new(alloc, (number, label))?;
+    Ok(boxed)
+}
+
 // Takes a counter back, which has no record; two records forth; and back and forth beyond them.
 fn walk(
+    alloc: Global,
     journal: &mut Journal<Counter, u8>,
     counter: &mut Counter,
 ) -> Result<((bool, u32), u32, [(bool, u32); 6]), AllocError>
     requires { GoesWith journal.old counter.old.count }
 {
     let before = back(journal, counter)?;
-    journal.record(counter, 2, 12)?;
-    journal.record(counter, 3, 13)?;
+    journal.record(counter, boxed(alloc, 2, 12)?)?;
+    journal.record(counter, boxed(alloc, 3, 13)?)?;
     let recorded = counter.count;
     let moves = [
         back(journal, counter)?,
@@ -145,7 +152,7 @@ fn walk(
 fn a_counter_goes_back_and_forth(rt: HostRuntime) {
     let mut journal = Journal::<Counter, u8>::new(rt.alloc());
     let mut counter = Counter { count: 1 };
-    let told = walk(&mut journal, &mut counter);
+    let told = walk(rt.alloc(), &mut journal, &mut counter);
     let moves = [
         (true, 2),
         (true, 1),
@@ -180,25 +187,30 @@ fn entries<T: Reversible<Delta = u32>>(journal: &Journal<T, u8>) -> Entries {
 }
 
 // Four records.
-fn record_four(journal: &mut Journal<Counter, u8>, counter: &mut Counter) -> Result<(), AllocError>
+fn record_four(
+    alloc: Global,
+    journal: &mut Journal<Counter, u8>,
+    counter: &mut Counter,
+) -> Result<(), AllocError>
     requires { GoesWith journal.old counter.old.count }
     ensures { GoesWith journal.new counter.new.count }
 {
-    journal.record(counter, 2, 12)?;
-    journal.record(counter, 3, 13)?;
-    journal.record(counter, 4, 14)?;
-    journal.record(counter, 5, 15)
+    journal.record(counter, boxed(alloc, 2, 12)?)?;
+    journal.record(counter, boxed(alloc, 3, 13)?)?;
+    journal.record(counter, boxed(alloc, 4, 14)?)?;
+    journal.record(counter, boxed(alloc, 5, 15)?)
 }
 
 // The entries of a journal with no record, after four and after two moves back, and how many lead back and forth then.
 fn entries_on_the_way(
+    alloc: Global,
     journal: &mut Journal<Counter, u8>,
     counter: &mut Counter,
 ) -> Result<([Entries; 3], (usize, usize)), AllocError>
     requires { GoesWith journal.old counter.old.count }
 {
     let first = entries(journal);
-    record_four(journal, counter)?;
+    record_four(alloc, journal, counter)?;
     let past = entries(journal);
     journal.undo(counter)?;
     journal.undo(counter)?;
@@ -210,7 +222,7 @@ fn entries_on_the_way(
 fn entries_stand_from_the_oldest_past_to_the_last_future(rt: HostRuntime) {
     let mut journal = Journal::<Counter, u8>::new(rt.alloc());
     let mut counter = Counter { count: 1 };
-    let told = entries_on_the_way(&mut journal, &mut counter);
+    let told = entries_on_the_way(rt.alloc(), &mut journal, &mut counter);
     let past = [
         Some((1, 12)),
         Some((2, 13)),
@@ -231,15 +243,16 @@ fn entries_stand_from_the_oldest_past_to_the_last_future(rt: HostRuntime) {
 // Two records, and another after the last of them is undone: how many lead back and forth then, the entries, and whether there
 // is one to redo, and where the counter is.
 fn record_after_undo(
+    alloc: Global,
     journal: &mut Journal<Counter, u8>,
     counter: &mut Counter,
 ) -> Result<((usize, usize), Entries, (bool, u32)), AllocError>
     requires { GoesWith journal.old counter.old.count }
 {
-    journal.record(counter, 2, 12)?;
-    journal.record(counter, 3, 13)?;
+    journal.record(counter, boxed(alloc, 2, 12)?)?;
+    journal.record(counter, boxed(alloc, 3, 13)?)?;
     journal.undo(counter)?;
-    journal.record(counter, 7, 17)?;
+    journal.record(counter, boxed(alloc, 7, 17)?)?;
     let lengths = (journal.past_len(), journal.future_len());
     Ok((lengths, entries(journal), forth(journal, counter)?))
 }
@@ -248,7 +261,7 @@ fn record_after_undo(
 fn a_record_drops_the_future(rt: HostRuntime) {
     let mut journal = Journal::<Counter, u8>::new(rt.alloc());
     let mut counter = Counter { count: 1 };
-    let told = record_after_undo(&mut journal, &mut counter);
+    let told = record_after_undo(rt.alloc(), &mut journal, &mut counter);
     let behind = [Some((1, 12)), Some((2, 17)), None, None, None];
     assert_eq!(rt; told, Ok(((2, 0), behind, (false, 7))));
 }
@@ -262,13 +275,17 @@ fn seen(journal: &Journal<Dial, u8>, dial: &Dial) -> Seen {
 }
 
 // Tries to put a record ahead of a dial that is locked meanwhile: whether it is refused, and what is seen then.
-fn precede_locked(journal: &mut Journal<Dial, u8>, dial: &mut Dial) -> (bool, Seen)
+fn precede_locked(
+    journal: &mut Journal<Dial, u8>,
+    dial: &mut Dial,
+    entry: Box<(u32, u8)>,
+) -> (bool, Seen)
     requires first { past_of journal.old ≡ [] }
     requires whole { GoesWith journal.old dial.old.number }
     ensures { GoesWith journal.new dial.new.number }
 {
     dial.is_locked = true;
-    let is_refused = journal.precede(dial, 7, 17).is_err();
+    let is_refused = journal.precede(dial, entry).is_err();
     let seen = seen(journal, dial);
     dial.is_locked = false;
     (is_refused, seen)
@@ -277,16 +294,17 @@ fn precede_locked(journal: &mut Journal<Dial, u8>, dial: &mut Dial) -> (bool, Se
 // Puts two records ahead of a dial and tries a third, and redoes the two: what is seen after each part, whether the third is
 // refused, and whether there were two to redo.
 fn precede_and_redo(
+    alloc: Global,
     journal: &mut Journal<Dial, u8>,
     dial: &mut Dial,
 ) -> Result<(Seen, (bool, Seen), (bool, bool), Seen), AllocError>
     requires first { past_of journal.old ≡ [] }
     requires whole { GoesWith journal.old dial.old.number }
 {
-    journal.precede(dial, 2, 13)?;
-    journal.precede(dial, 1, 12)?;
+    journal.precede(dial, boxed(alloc, 2, 13)?)?;
+    journal.precede(dial, boxed(alloc, 1, 12)?)?;
     let ahead = seen(journal, dial);
-    let refused = precede_locked(journal, dial);
+    let refused = precede_locked(journal, dial, boxed(alloc, 7, 17)?);
     let redone = (journal.redo(dial)?, journal.redo(dial)?);
     Ok((ahead, refused, redone, seen(journal, dial)))
 }
@@ -298,19 +316,23 @@ fn a_dial_is_preceded_by_its_past(rt: HostRuntime) {
         number: 3,
         is_locked: false,
     };
-    let told = precede_and_redo(&mut journal, &mut dial);
+    let told = precede_and_redo(rt.alloc(), &mut journal, &mut dial);
     let ahead = (1, (0, 2), [Some((2, 12)), Some((3, 13)), None, None, None]);
     let behind = (3, (2, 0), [Some((1, 12)), Some((2, 13)), None, None, None]);
     assert_eq!(rt; told, Ok((ahead, (true, ahead), (true, true), behind)));
 }
 
 // Tries to record, to undo and to redo: whether each is refused, and the entries after it.
-fn try_all(journal: &mut Journal<Dial, u8>, dial: &mut Dial) -> [(bool, Entries); 3]
+fn try_all(
+    journal: &mut Journal<Dial, u8>,
+    dial: &mut Dial,
+    entry: Box<(u32, u8)>,
+) -> [(bool, Entries); 3]
     requires { GoesWith journal.old dial.old.number }
     ensures { GoesWith journal.new dial.new.number }
 {
     [
-        (journal.record(dial, 7, 17).is_err(), entries(journal)),
+        (journal.record(dial, entry).is_err(), entries(journal)),
         (journal.undo(dial).is_err(), entries(journal)),
         (journal.redo(dial).is_err(), entries(journal)),
     ]
@@ -319,16 +341,17 @@ fn try_all(journal: &mut Journal<Dial, u8>, dial: &mut Dial) -> [(bool, Entries)
 // Tries all on a dial between two records that is locked: what it tells, and the number; and once it is unlocked, whether it is
 // redone, and the number.
 fn lock_and_unlock(
+    alloc: Global,
     journal: &mut Journal<Dial, u8>,
     dial: &mut Dial,
 ) -> Result<([(bool, Entries); 3], u32, bool, u32), AllocError>
     requires { GoesWith journal.old dial.old.number }
 {
-    journal.record(dial, 2, 12)?;
-    journal.record(dial, 3, 13)?;
+    journal.record(dial, boxed(alloc, 2, 12)?)?;
+    journal.record(dial, boxed(alloc, 3, 13)?)?;
     journal.undo(dial)?;
     dial.is_locked = true;
-    let tried = try_all(journal, dial);
+    let tried = try_all(journal, dial, boxed(alloc, 7, 17)?);
     let held = dial.number;
     dial.is_locked = false;
     let moved = journal.redo(dial)?;
@@ -342,7 +365,7 @@ fn a_locked_dial_and_its_journal_stay(rt: HostRuntime) {
         number: 1,
         is_locked: false,
     };
-    let told = lock_and_unlock(&mut journal, &mut dial);
+    let told = lock_and_unlock(rt.alloc(), &mut journal, &mut dial);
     let held = [Some((1, 12)), Some((3, 13)), None, None, None];
     assert_eq!(rt; told, Ok(([(true, held); 3], 2, true, 3)));
 }

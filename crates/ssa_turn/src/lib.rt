@@ -19,4 +19,4 @@ mod label_read;
 pub mod timeline;
 
 pub use label::Label;
-pub use timeline::{Log, Step, Timeline};
+pub use timeline::{Log, Timeline};

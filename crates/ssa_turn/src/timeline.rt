@@ -28,13 +28,6 @@ use ssa_turn_state::own_paths::own_paths_are_read;
 use std::alloc::{AllocError, Global};
 use std::marker::Model;
 
-/// A command, and the record that leads from the state before it to the one that it makes.
-#[derive(Drop)]
-pub struct Step {
-    pub label: Label,
-    pub delta: StateDelta,
-}
-
 /// The labels of a history: those of the states up to the place, oldest first, and those behind it,
 /// the next one first.
 #[derive(Drop)]
@@ -210,37 +203,38 @@ impl Timeline {
         self.journal.entry(n)
     }
 
-    /// Cuts off what came after the place, and goes to the state that the record leads to there.
+    /// Cuts off what came after the place, and goes to the state that a command's record leads to there. The
+    /// record comes with the command's label in the box in which the history keeps both.
     ///
     /// All memory that later moves want is taken here: where it is refused, nothing has moved.
-    pub fn append(&mut self, step: Step) -> Result<(), AllocError>
-        requires fits { IsTaken (state_steps step.delta) (present self.old) (carry (state_steps step.delta) (present self.old)) }
-        requires room { HasStateRoom step.delta (present self.old) }
-        requires back { HasTableBack (carry (state_steps step.delta) (present self.old)) }
-        ensures ok { OnOk result (self.new ≡ appended self.old (label_view step.label) (carry (state_steps step.delta) (present self.old))) }
+    pub fn append(&mut self, entry: Box<(StateDelta, Label)>) -> Result<(), AllocError>
+        requires fits { IsTaken (state_steps entry.value.0) (present self.old) (carry (state_steps entry.value.0) (present self.old)) }
+        requires room { HasStateRoom entry.value.0 (present self.old) }
+        requires back { HasTableBack (carry (state_steps entry.value.0) (present self.old)) }
+        ensures ok { OnOk result (self.new ≡ appended self.old (label_view entry.value.1) (carry (state_steps entry.value.0) (present self.old))) }
         ensures err { OnErr result (self.new ≡ self.old) }
     {
-        let Step { label, delta } = step;
-        label.own_moment_is_read();
-        let moved = self.journal.record(&mut self.live, delta, label);
+        entry.1.own_moment_is_read();
+        let moved = self.journal.record(&mut self.live, entry);
         own_paths_are_read(&self.live.state.body);
         moved
     }
 
     /// Puts a state before all others, at the place of which the timeline stands, and goes there: the
-    /// command led from it to the state that was first, and the record leads to it.
+    /// command led from it to the state that was first, and the record leads to it. They come as for
+    /// [`append`](Timeline::append).
     ///
     /// All memory that later moves want is taken here: where it is refused, nothing has moved.
-    pub fn precede(&mut self, label: Label, delta: StateDelta) -> Result<(), AllocError>
+    pub fn precede(&mut self, entry: Box<(StateDelta, Label)>) -> Result<(), AllocError>
         requires first { past_len self.old ≡ 0 }
-        requires fits { IsTaken (state_steps delta) (present self.old) (carry (state_steps delta) (present self.old)) }
-        requires room { HasStateRoom delta (present self.old) }
-        requires back { HasTableBack (carry (state_steps delta) (present self.old)) }
-        ensures ok { OnOk result (self.new ≡ preceded self.old (label_view label) (carry (state_steps delta) (present self.old))) }
+        requires fits { IsTaken (state_steps entry.value.0) (present self.old) (carry (state_steps entry.value.0) (present self.old)) }
+        requires room { HasStateRoom entry.value.0 (present self.old) }
+        requires back { HasTableBack (carry (state_steps entry.value.0) (present self.old)) }
+        ensures ok { OnOk result (self.new ≡ preceded self.old (label_view entry.value.1) (carry (state_steps entry.value.0) (present self.old))) }
         ensures err { OnErr result (self.new ≡ self.old) }
     {
-        label.own_moment_is_read();
-        let moved = self.journal.precede(&mut self.live, delta, label);
+        entry.1.own_moment_is_read();
+        let moved = self.journal.precede(&mut self.live, entry);
         own_paths_are_read(&self.live.state.body);
         moved
     }

@@ -13,14 +13,13 @@ ghost use Rattle.ssa_json.specs.View.{view};
 ghost use Rattle.ssa_bench.specs.Taking.{IsTaken, MovesBy, TellsMove};
 
 use super::Bench;
-use crate::taking::{answered_step, label_of, load_fault};
+use crate::taking::{Step, answered_step, label_of, load_fault};
 use ssa_file::loading::{FileLine, LoadFault};
 use ssa_file::written::is_text_of;
 use ssa_json::value::Json;
 use ssa_model::records::recorded_moves;
 use ssa_schema::schema::Schema;
 use ssa_told::line_values::line_values;
-use ssa_turn::timeline::Step;
 use std::alloc::{AllocError, Global};
 
 impl Bench {
@@ -85,8 +84,8 @@ impl Bench {
         requires few { length self.old.timeline.later < most_past }
         ensures { MovesBy preceded self.old self.new result (view line.now.value) }
     {
-        let Step { label, delta } = self.told_move(alloc, &line.value)?;
-        self.timeline.precede(label, delta)?;
+        let step = self.told_move(alloc, &line.value)?;
+        self.timeline.precede(step.boxed(alloc)?)?;
         Ok(())
     }
 
@@ -98,7 +97,7 @@ impl Bench {
     {
         self.timeline.place_is_within();
         let step = self.told_move(alloc, &line.value)?;
-        self.timeline.append(step)?;
+        self.timeline.append(step.boxed(alloc)?)?;
         Ok(())
     }
 

@@ -12,3 +12,8 @@ pub returns-in_err-delta-clause-back : goal.returns-in_err-delta-clause-back
 returns-in_err-delta-clause-back c =
     let s = state_view c.args.state.now in
     λ back. c.new_sets_are_read.ensures s.table _ c.requires.leads back (read-owned readings s.body c.requires.read s.table c.requires.valid.1.table.ownable)
+
+pub returns-in_err-step-clause-back : goal.returns-in_err-step-clause-back
+returns-in_err-step-clause-back c =
+    let s = state_view c.args.state.now in
+    λ back. c.new_sets_are_read.ensures s.table _ c.requires.leads back (read-owned readings s.body c.requires.read s.table c.requires.valid.1.table.ownable)

@@ -27,7 +27,7 @@ pub invariant_of-self-2 : goal.invariant_of-self-2
 invariant_of-self-2 c =
     let b = c.self.inside in
     let bench : model.Bench = bench_view b in
-    let label = label_view c.args.prepared.step.label in
+    let label = label_view c.args.prepared.step.value.1 in
     let state = led_to bench c.args.prepared in
     let prepared : IsPreparedOn bench c.args.prepared = subst (λ n. IsPreparedOn n c.args.prepared) (sym c.self.view_is) c.requires in
     let distinct = (present_valid b.schema.kind b.timeline c.self.invariant.states).table.managers.distinct in

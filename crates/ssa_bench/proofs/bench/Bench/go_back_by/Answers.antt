@@ -1,4 +1,5 @@
 use Rattle.std.proofs.Common.{◌≡◌, ◌<◌, Ok, ap, length, sym, subst, ◌∙◌}
+use Rattle.ssa_model.specs.definitions.Carry.{carry}
 use Rattle.ssa_model.specs.definitions.History as model
 use Rattle.ssa_model.specs.definitions.History.{last_state, past_len, present, with_timeline}
 use Rattle.ssa_model.specs.definitions.Limits.{most_past}
@@ -10,7 +11,9 @@ use Rattle.std.proofs.Common.{take}
 use Rattle.ssa_json.specs.View.{view}
 use Rattle.ssa_turn.specs.Histories.{label_view}
 use Rattle.ssa_turn.specs.TablesBack.{HasTableBack}
-use Rattle.ssa_turn_state.specs.States.{state_steps}
+use Rattle.ssa_turn.specs.declared.label.Label.{Label}
+use Rattle.ssa_turn_state.specs.States.{HasStateRoom, IsTaken, state_steps}
+use Rattle.ssa_turn_state.specs.declared.live_state.StateDelta.{StateDelta}
 use Rattle.ssa_bench.specs.BenchView.{bench_view}
 use Rattle.ssa_bench.specs.Taking.{IsToldMove, TellsMove}
 use Rattle.ssa_bench.proofs.TakenLines.{preceded-history}
@@ -21,39 +24,45 @@ pub precede-requires-clause-fits : goal.precede-requires-clause-fits
 precede-requires-clause-fits c =
     let bench : model.Bench = bench_view c.self.inside in
     let v = view c.args.line.now.value in
-    let told = subst (λ (b : model.Bench). TellsMove b (Ok c.in_ok-label.field-0) v) (sym (c.self.view_is ∙ c.in_ok-label.ensures.same))
-    c.in_ok-label.ensures.told in
-    taken-there bench.schema.kind (state_steps c.in_ok-label.field-0.delta) (present bench.timeline) told.0 told.1.takes
+    let told = subst (λ (b : model.Bench). TellsMove b (Ok c.in_ok-step.step) v) (sym (c.self.view_is ∙ c.in_ok-step.ensures.same))
+    c.in_ok-step.ensures.told in
+    subst (λ (e : StateDelta × Label). IsTaken (state_steps e.0) (present bench.timeline) (carry (state_steps e.0) (present bench.timeline)))
+    (sym c.in_ok-boxed.ensures)
+    (taken-there bench.schema.kind (state_steps c.in_ok-step.step.delta) (present bench.timeline) told.0 told.1.takes)
 
 pub precede-requires-clause-room : goal.precede-requires-clause-room
 precede-requires-clause-room c =
+    let bench : model.Bench = bench_view c.self.inside in
     let v = view c.args.line.now.value in
-    (subst (λ (b : model.Bench). TellsMove b (Ok c.in_ok-label.field-0) v) (sym (c.self.view_is ∙ c.in_ok-label.ensures.same))
-    c.in_ok-label.ensures.told).1.room
+    subst (λ (e : StateDelta × Label). HasStateRoom e.0 (present bench.timeline)) (sym c.in_ok-boxed.ensures)
+    ((subst (λ (b : model.Bench). TellsMove b (Ok c.in_ok-step.step) v) (sym (c.self.view_is ∙ c.in_ok-step.ensures.same))
+    c.in_ok-step.ensures.told).1.room)
 
 pub precede-requires-clause-back : goal.precede-requires-clause-back
 precede-requires-clause-back c =
     let bench : model.Bench = bench_view c.self.inside in
     let v = view c.args.line.now.value in
-    let told = subst (λ (b : model.Bench). TellsMove b (Ok c.in_ok-label.field-0) v) (sym (c.self.view_is ∙ c.in_ok-label.ensures.same))
-    c.in_ok-label.ensures.told in
-    subst HasTableBack (sym (fixes_target bench.schema.kind (state_steps c.in_ok-label.field-0.delta) (present bench.timeline) told.0 told.1.takes)) told.1.back
+    let told = subst (λ (b : model.Bench). TellsMove b (Ok c.in_ok-step.step) v) (sym (c.self.view_is ∙ c.in_ok-step.ensures.same))
+    c.in_ok-step.ensures.told in
+    subst (λ (e : StateDelta × Label). HasTableBack (carry (state_steps e.0) (present bench.timeline))) (sym c.in_ok-boxed.ensures)
+    (subst HasTableBack (sym (fixes_target bench.schema.kind (state_steps c.in_ok-step.step.delta) (present bench.timeline) told.0 told.1.takes)) told.1.back)
 
 pub invariant_of-self-2 : goal.invariant_of-self-2
 invariant_of-self-2 c =
     let b = c.self.inside in
     let bench : model.Bench = bench_view b in
     let v = view c.args.line.now.value in
-    let same = sym (c.self.view_is ∙ c.in_ok-label.ensures.same) in
-    let told = subst (λ (n : model.Bench). TellsMove n (Ok c.in_ok-label.field-0) v) same c.in_ok-label.ensures.told in
+    let same = sym (c.self.view_is ∙ c.in_ok-step.ensures.same) in
+    let told = subst (λ (n : model.Bench). TellsMove n (Ok c.in_ok-step.step) v) same c.in_ok-step.ensures.told in
     let first = subst (λ (n : model.Bench). past_len n.timeline ≡ 0) same c.requires.first in
     let few = subst (λ (n : model.Bench). length n.timeline.later < most_past) same c.requires.few in
     let w = told.0 in
-    let label = label_view c.in_ok-label.field-0.label in
-    let led = fixes_target bench.schema.kind (state_steps c.in_ok-label.field-0.delta) (present b.timeline) w told.1.takes in
+    let label = label_view c.in_ok-step.step.label in
+    let unboxed = ap (λ (e : StateDelta × Label). preceded b.timeline (label_view e.1) (carry (state_steps e.0) (present b.timeline))) c.in_ok-boxed.ensures in
+    let led = fixes_target bench.schema.kind (state_steps c.in_ok-step.step.delta) (present b.timeline) w told.1.takes in
     let now : present b.timeline ≡ b.timeline.first = ap (λ n. last_state b.timeline.first (take n b.timeline.later)) first in
     let order = subst (λ (s : State). KeepsOrder s.table w.table) now told.1.takes.order in
-    subst (IsValidHistory b.schema.kind) (sym (c.in_ok-precede.ensures.ok ∙ ap (preceded b.timeline label) led))
+    subst (IsValidHistory b.schema.kind) (sym (c.in_ok-precede.ensures.ok ∙ unboxed ∙ ap (preceded b.timeline label) led))
     (preceded-history b.schema.kind b.timeline label w c.self.invariant few told.1.takes.to order told.1.named)
 
 pub returns : goal.returns
@@ -61,13 +70,14 @@ returns c =
     let b = c.self.inside in
     let bench : model.Bench = bench_view b in
     let v = view c.args.line.now.value in
-    let same = sym (c.self.view_is ∙ c.in_ok-label.ensures.same) in
-    let own = c.in_ok-label.ensures.told in
+    let same = sym (c.self.view_is ∙ c.in_ok-step.ensures.same) in
+    let own = c.in_ok-step.ensures.told in
     let w = own.0 in
-    let takes = (subst (λ (n : model.Bench). IsToldMove n c.in_ok-label.field-0 v w) same own.1).takes in
-    let label = label_view c.in_ok-label.field-0.label in
-    let led = fixes_target bench.schema.kind (state_steps c.in_ok-label.field-0.delta) (present b.timeline) w takes in
-    let goes = c.in_ok-precede.ensures.ok ∙ ap (preceded b.timeline label) led in (
+    let takes = (subst (λ (n : model.Bench). IsToldMove n c.in_ok-step.step v w) same own.1).takes in
+    let label = label_view c.in_ok-step.step.label in
+    let unboxed = ap (λ (e : StateDelta × Label). preceded b.timeline (label_view e.1) (carry (state_steps e.0) (present b.timeline))) c.in_ok-boxed.ensures in
+    let led = fixes_target bench.schema.kind (state_steps c.in_ok-step.step.delta) (present b.timeline) w takes in
+    let goes = c.in_ok-precede.ensures.ok ∙ unboxed ∙ ap (preceded b.timeline label) led in (
       (label, w),
       own.1.move,
       (λ i. record { schema = b.schema; identity = b.identity; timeline = goes i })

@@ -1,10 +1,12 @@
-use Rattle.std.proofs.Common.{◌≡◌, ap, sym, subst, ◌∙◌, OnErr, reverse}
+use Rattle.std.proofs.Common.{◌≡◌, true, ap, sym, subst, ◌∙◌, OnErr, reverse}
 use Rattle.std.proofs.lemmas.List.{length-reverse, nil_from_length}
 use Rattle.ssa_merge.specs.States.{state_view}
 use Rattle.ssa_model.specs.definitions.Carry.{carry}
 use Rattle.ssa_model.specs.definitions.History.{present, past_len}
 use Rattle.ssa_reverse.specs.Journals.{past_of, timeline_of}
 use Rattle.ssa_reverse.specs.Timeline.{steps-length}
+use Rattle.ssa_turn.specs.Dated.{is_dated}
+use Rattle.ssa_turn.specs.declared.label.Label.{Label}
 use Rattle.ssa_turn.specs.Histories.{in_a_row, label_view, preceded}
 use Rattle.ssa_turn.specs.TablesBack.{HasTableBack}
 use Rattle.std.proofs.lemmas.Result.{on_err_weaker as on-err, on_ok_weaker as on-ok}
@@ -21,13 +23,13 @@ precede-moved-requires-clause-first c =
 pub precede-moved-requires-clause-fits : goal.precede-moved-requires-clause-fits
 precede-moved-requires-clause-fits c =
     let row = timeline_of c.self.inside.journal (state_view c.self.inside.live.state) in
-    let d = state_steps c.args.delta in
+    let d = state_steps c.args.entry.value.0 in
     subst (λ s. IsTaken d s (carry d s)) (sym (ap present c.self.view_is) ∙ present-is row) c.requires.fits
 
 pub precede-moved-requires-clause-room : goal.precede-moved-requires-clause-room
 precede-moved-requires-clause-room c =
     let row = timeline_of c.self.inside.journal (state_view c.self.inside.live.state) in
-    subst (HasStateRoom c.args.delta) (sym (ap present c.self.view_is) ∙ present-is row) c.requires.room
+    subst (HasStateRoom c.args.entry.value.0) (sym (ap present c.self.view_is) ∙ present-is row) c.requires.room
 
 pub invariant_of-self : goal.invariant_of-self
 invariant_of-self c =
@@ -37,21 +39,22 @@ invariant_of-self c =
     let w = state_view call.new.value.state in
     let before = timeline_of journal v in
     let after = timeline_of call.new.self w in
-    let d = state_steps c.args.delta in
+    let d = state_steps c.args.entry.value.0 in
     let here = sym (ap present c.self.view_is) ∙ present-is before in
     let table = subst (λ s. HasTableBack (carry d s)) here c.requires.back in
     let stays : OnErr call.result (after ≡ before) =
     on-err call.result (λ h. same-row call.new.self journal call.new.value c.self.inside.live h.1 h.0) call.ensures.err in
-    let read = after-precede call.result before after (carry d v) c.args.label (ap past_len c.self.view_is ∙ c.requires.first) call.ensures.ok stays
-    (whole-back c.self.inside c.self.invariant) table c.own_moment_is_read.ensures c.own_paths_are_read.ensures in
+    let dated = subst (λ (l : Label). is_dated (label_view l) ≡ true) (ap (λ e. e.1) c.deref.ensures) c.own_moment_is_read.ensures in
+    let read = after-precede call.result before after (carry d v) c.args.entry.value.1 (ap past_len c.self.view_is ∙ c.requires.first) call.ensures.ok stays
+    (whole-back c.self.inside c.self.invariant) table dated c.own_paths_are_read.ensures in
     record { goes = call.ensures.whole; back = read.back; dated = read.dated; read = read.read }
 
 pub returns-clause-ok : goal.returns-clause-ok
 returns-clause-ok c =
     let row = timeline_of c.self.inside.journal (state_view c.self.inside.live.state) in
     let here = sym (ap present c.self.view_is) ∙ present-is row in
-    let d = state_steps c.args.delta in
-    let l = c.args.label in
+    let d = state_steps c.args.entry.value.0 in
+    let l = c.args.entry.value.1 in
     on-ok c.precede-moved.result
     (λ h. ap in_a_row h ∙ preceded-is row (carry d (state_view c.self.inside.live.state)) l (ap past_len c.self.view_is ∙ c.requires.first)
     ∙ (λ i. preceded (c.self.view_is i) (label_view l) (carry d (sym here i))))
