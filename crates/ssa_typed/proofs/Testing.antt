@@ -1,35 +1,57 @@
 -- Values that are tested while their trees are made.
-use Rattle.std.proofs.Common.{◌≡◌, List, [], ◌∷◌, ◌++◌, Bool, true, false, ◌&&◌, string_bytes, string_cmp, refl, sym, ap, ◌∙◌, true≢false, append_assoc, append-nil}
+use Rattle.std.proofs.Common.{◌≡◌, List, [], ◌∷◌, ◌++◌, Bool, true, false, ◌&&◌, option_map, string_bytes, string_cmp, refl, sym, ap, ◌∙◌, true≢false, append_assoc, append-nil, rules}
 use Rattle.std.proofs.lemmas.List.{map-append}
 use Rattle.std.specs.List.Sorted.{IsStrictlySortedBy}
 use Rattle.std.specs.Map.{keys_of}
 use Rattle.std.specs.Prelude.{Option, None, Some, codes, if◌then◌else◌}
+use Rattle.ssa_members.specs.Texts.{text_bytes}
+use Rattle.ssa_members.specs.declared.small_text.SmallText.{SmallText}
 use Rattle.ssa_model.specs.definitions.Json.{Text, Json, scalar, list, object, Members, no_members, member, same_text}
 use Rattle.ssa_model.specs.definitions.Path.{field, Path}
-use Rattle.ssa_model.specs.definitions.Kind.{Kind, Fields, FaultAt, faults, field_faults, kind_of, record_of, fault_at, unknown_field}
-use Rattle.ssa_model.specs.definitions.Body.{is_empty_object, without_empty_metadata}
+use Rattle.ssa_model.specs.definitions.Kind.{Kind, ScalarKind, Fields, FaultAt, faults, field_faults, fault_unless, is_of, kind_of, record_of, scalar_kind, fault_at, unknown_field, wrong_type}
+use Rattle.ssa_model.specs.definitions.Body.{leaf, places, is_empty_object, without_empty_metadata}
 use Rattle.ssa_model.specs.definitions.Lawful.{is_some_record}
 use Rattle.ssa_model.proofs.Tables.{same_text-true}
+use Rattle.ssa_json.specs.View.{scalar_view}
+use Rattle.ssa_json.specs.declared.value.Scalar.{Scalar}
 use Rattle.ssa_json.proofs.Converting.{Found as Entry}
 use Rattle.ssa_json.proofs.Ordered.{names}
 use Rattle.ssa_schema.specs.Refusals.{first_of}
-use Rattle.ssa_schema.specs.Finds.{Finds}
+use Rattle.ssa_schema.specs.Finds.{Finds, Breaks, told}
 use Rattle.ssa_schema.specs.declared.fit.found.Found.{Found}
 use Rattle.ssa_schema.proofs.Finding.{finds_from, finds_first, none_first}
-use Rattle.ssa_typed.specs.Flats.{AreNamed, IsChild}
-use Rattle.ssa_typed.specs.Rows.{Row}
-use Rattle.ssa_typed.specs.Tested.{member_faults, IsTested}
-use Rattle.ssa_typed.specs.declared.tested.Tested.{Tested}
-use Rattle.ssa_typed.specs.declared.tested.Tested.TheVariants.{Fits, Breaks}
+use Rattle.ssa_path.specs.declared.element.Elem.TheVariants.{Field}
+use Rattle.ssa_typed.specs.Flats.{rows_at, AreNamed, IsChild}
+use Rattle.ssa_typed.specs.Rows.{Row, rows}
+use Rattle.ssa_typed.specs.Tested.{member_faults, IsTested, PushesTested}
+use Rattle.ssa_typed.specs.declared.node.Leaf.TheVariants.{Scalar as ScalarLeaf}
+use Rattle.ssa_typed.specs.declared.node.Node.{Leaf, the_lemmas}
+use Rattle.ssa_typed.specs.declared.tested.Tested.TheVariants.{Fits}
 use Rattle.ssa_typed.proofs.Building.{Child, IsNaming, naming-none, naming-step, naming-end}
 
 -- ---- what is made
 
--- what is tested by some faults, and made, is so by those that begin alike, and made what follows from it
-pub tested-from : {X : Type 0} (whole here : Path → List FaultAt) (made more : X → Type 0) (t : Tested X)
-    → ((p : Path) → first_of (whole p) ≡ first_of (here p)) → ((x : X) → made x → more x) → IsTested here made t → IsTested whole more t
-tested-from whole here made more (Fits x) same so h = (finds_from None whole here same h.0, so x h.1)
-tested-from whole here made more (Breaks f) same so h = finds_from (Some f) whole here same h
+-- what is tested by some faults, and put behind others, is so by those that begin alike, and what was made is what follows from it
+pub pushed-from : {X : Type 0} (whole here : Path → List FaultAt) (made more : X → Type 0) (old new : List X) (o : Option Found)
+    → ((p : Path) → first_of (whole p) ≡ first_of (here p)) → ((x : X) → made x → more x) → PushesTested here made old new o → PushesTested whole more old new o
+pushed-from whole here made more old new None same so h = (h.0, h.1, (finds_from None whole here same h.2.0, so h.0 h.2.1))
+pushed-from whole here made more old new (Some f) same so h = finds_from (Some f) whole here same h
+
+leaf-rows : (s : Scalar) → rows (Leaf (ScalarLeaf s)) ≡ ([], leaf (scalar_view s)) ∷ []
+leaf-rows s = search (rules, the_lemmas)
+
+-- a scalar without a fault is made a leaf
+pub leaf-tested : (k : Kind) (w : ScalarKind) (v : Json) (s : Scalar) (t : SmallText) (n : Text) → k ≡ scalar_kind w → v ≡ scalar (scalar_view s)
+    → text_bytes t ≡ n → Breaks None (fault_unless (is_of w (scalar_view s)) wrong_type)
+    → IsTested (λ p. faults k v (p ++ field n ∷ [])) (IsChild (field n) (places k v)) (Fits (Field t, Leaf (ScalarLeaf s)))
+leaf-tested k w v s t n kind value name fits = (
+  λ p. ap (option_map told) (fits (p ++ field n ∷ []) ∙ (λ i. first_of (faults (sym kind i) (sym value i) (p ++ field n ∷ [])))),
+  record {
+    element = ap field name;
+    placed = λ p. ap (rows_at p) (leaf-rows s) ∙ ap (λ q. (q, leaf (scalar_view s)) ∷ []) (append-nil p) ∙ (λ i. places (sym kind i) (sym value i) p);
+    tree = search (rules, the_lemmas);
+  },
+)
 
 -- ---- members
 

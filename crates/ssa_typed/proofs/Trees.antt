@@ -34,6 +34,10 @@ use denote.Param.Weighed.{most}
 pub kind_view-Dict : (b : Box kind.Kind Global) → kind_view (kind.Dict b) ≡ model.dict_of (kind_view b.value)
 kind_view-Dict b = search (rules, kind.the_lemmas)
 
+-- the kind of a scalar is seen as a scalar's kind
+pub kind_view-Scalar : (k : ScalarKind) → kind_view (kind.Scalar k) ≡ model.scalar_kind (scalar_kind_view k)
+kind_view-Scalar k = search (rules, kind.the_lemmas)
+
 -- the kind of a set is seen as a set of its scalars' kind
 pub kind_view-SetOf : (k : ScalarKind) → kind_view (kind.SetOf k) ≡ model.set_of (scalar_kind_view k)
 kind_view-SetOf k = search (rules, kind.the_lemmas)

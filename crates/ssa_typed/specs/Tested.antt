@@ -1,9 +1,10 @@
 -- Values that are tested while their trees are made.
-use Rattle.std.specs.Prelude.{Bool, List, [], ◌∷◌, ◌++◌, None, Some}
+use Rattle.std.specs.Prelude.{◌≡◌, Bool, List, [], ◌∷◌, ◌++◌, Option, None, Some}
 use Rattle.ssa_model.specs.definitions.Json.{Text, Json, object}
 use Rattle.ssa_model.specs.definitions.Path.{field, Path}
 use Rattle.ssa_model.specs.definitions.Kind.{Fields, FaultAt, faults, fault_at, key_faults, kind_of, or_else, unknown_field, wrong_type}
 use Rattle.ssa_schema.specs.Finds.{Finds, keyed_faults}
+use Rattle.ssa_schema.specs.declared.fit.found.Found.{Found}
 use Rattle.ssa_typed.specs.declared.tested.Tested.{Tested}
 use Rattle.ssa_typed.specs.declared.tested.Tested.TheVariants.{Fits, Breaks}
 
@@ -11,6 +12,11 @@ use Rattle.ssa_typed.specs.declared.tested.Tested.TheVariants.{Fits, Breaks}
 abbrev pub IsTested : {X : Type 0} → (Path → List FaultAt) → (X → Type 0) → Tested X → Type 0
 IsTested here made (Fits x) = Finds None here × made x
 IsTested here made (Breaks f) = Finds (Some f) here
+
+-- there are no faults, and what was made stands behind these; or this is the first fault, wherever the walk began
+abbrev pub PushesTested : {X : Type 0} → (Path → List FaultAt) → (X → Type 0) → List X → List X → Option Found → Type 0
+PushesTested here made old new None = (x : _) × (new ≡ old ++ x ∷ []) × IsTested here made (Fits x)
+PushesTested here made old new (Some f) = IsTested here made (Breaks f)
 
 -- the faults of a member at the path of its object
 abbrev pub member_faults : Fields → Text → Json → Path → List FaultAt

@@ -10,9 +10,22 @@ use ssa_path::element::Elem;
 use ssa_path::trie::Trie;
 use std::alloc::{AllocError, Global};
 
+// Whether these tries are the points below a node. Mostly it is a leaf, and there are none.
+#[cycle(points)]
+#[inline(always)]
+fn are_points_held(alloc: Global, node: &Node, held: &[(Elem, Trie)]) -> Result<bool, AllocError>
+    requires { is_tree node.now ≡ true }
+    ensures { IfOk result (λ b. b ≡ true → IsCollected Points node.now held.now) }
+{
+    if held.is_empty() {
+        return Ok(node.children().is_empty());
+    }
+    are_points_below(alloc, node, held)
+}
+
 // Whether these tries are the points below a node, each child's behind the child's element. Where
 // the numbers of children differ, none are put in order.
-#[inline(always)]
+#[cycle(points)]
 fn are_points_below(alloc: Global, node: &Node, held: &[(Elem, Trie)]) -> Result<bool, AllocError>
     requires { is_tree node.now ≡ true }
     ensures { IfOk result (λ b. b ≡ true → IsCollected Points node.now held.now) }
@@ -32,7 +45,7 @@ fn are_points_below(alloc: Global, node: &Node, held: &[(Elem, Trie)]) -> Result
         if !child.0.is_same(element) || trie.here != here {
             return Ok(false);
         }
-        if !are_points_below(alloc, &child.1, &trie.below)? || !trie.has_paths() {
+        if !are_points_held(alloc, &child.1, &trie.below)? || !trie.has_paths() {
             return Ok(false);
         }
     }
@@ -52,7 +65,7 @@ impl Node {
         if set.here {
             return Ok(false);
         }
-        let same = are_points_below(alloc, self, &set.below)?;
+        let same = are_points_held(alloc, self, &set.below)?;
         Ok(same)
     }
 }

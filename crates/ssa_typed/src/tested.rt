@@ -1,25 +1,24 @@
 //! Trees of values that are tested while they are made.
 ghost use Rattle.std.specs.Prelude.{◌≡◌, List, [], ◌∷◌, ◌++◌, true, Some, IfOk, string_bytes};
-ghost use Rattle.ssa_model.specs.definitions.Json as values;
 ghost use Rattle.ssa_model.specs.definitions.Path.{field, key, Path};
 ghost use Rattle.ssa_model.specs.definitions.Kind as kinds;
 ghost use Rattle.ssa_model.specs.definitions.Body.{field_places, entry_places, item_places, key_order, places};
 ghost use Rattle.ssa_model.specs.definitions.Lawful.{are_key_names, are_keyed, is_keyed};
-ghost use Rattle.ssa_json.specs.View.{view, items_view, members_view, scalar_view};
+ghost use Rattle.ssa_json.specs.View.{view, items_view, members_view};
 ghost use Rattle.ssa_schema.specs.Finds.{Finds};
-ghost use Rattle.ssa_schema.specs.Kinds.{kind_view, fields_view, names_view, scalar_kind_view};
+ghost use Rattle.ssa_schema.specs.Kinds.{kind_view, fields_view, names_view};
 ghost use Rattle.ssa_typed.specs.Flats.{member_places, AreListed, AreNamed, IsChild, IsItem, IsTreeOf};
-ghost use Rattle.ssa_typed.specs.Tested.{member_faults, own_item_faults, IsTested};
+ghost use Rattle.ssa_typed.specs.Tested.{member_faults, own_item_faults, IsTested, PushesTested};
 
 use crate::build::tree_of;
 use crate::item_keys::keys_of;
 use crate::node::{Leaf, Node};
-use ssa_json::value::{Json, Scalar};
+use ssa_json::value::Json;
 use ssa_members::{Members, Name};
 use ssa_path::element::Elem;
 use ssa_path::element_text::key_name;
 use ssa_path::keys::Keys;
-use ssa_schema::kind::{Kind, ScalarKind};
+use ssa_schema::kind::Kind;
 use ssa_schema::{
     Found, Misfit, field_name, is_other, keys_misfit, repeated_item, scalar_misfit, value_fault,
 };
@@ -46,17 +45,6 @@ fn below_key(alloc: Global, found: Found, own: Keys) -> Result<Found, AllocError
     found.below(key_name(alloc, own.members())?)
 }
 
-// The leaf of a scalar, or what is wrong with it.
-#[inline(always)]
-fn tested_scalar(alloc: Global, wanted: &ScalarKind, scalar: Scalar) -> Tested<Node>
-    ensures { IsTested (kinds.faults (kinds.scalar_kind (scalar_kind_view wanted.now)) (values.scalar (scalar_view scalar))) (IsTreeOf (kinds.scalar_kind (scalar_kind_view wanted.now)) (values.scalar (scalar_view scalar))) result }
-{
-    match scalar_misfit(&scalar, wanted) {
-        Some(misfit) => Tested::Breaks(Found::here(alloc, misfit)),
-        None => Tested::Fits(Node::Leaf(Leaf::Scalar(scalar))),
-    }
-}
-
 // The tree of a value that is tested before it is made, or the value's first fault.
 fn tested_whole(alloc: Global, kind: &Kind, value: Json) -> Result<Tested<Node>, AllocError>
     requires { is_keyed (kind_view kind.now) ≡ true }
@@ -76,7 +64,6 @@ fn tested_tree(alloc: Global, kind: &Kind, value: Json) -> Result<Tested<Node>, 
     ensures { IfOk result (λ t. IsTested (kinds.faults (kind_view kind.now) (view value)) (IsTreeOf (kind_view kind.now) (view value)) t) }
 {
     match (kind, value) {
-        (Kind::Scalar(wanted), Json::Scalar(scalar)) => Ok(tested_scalar(alloc, wanted, scalar)),
         (Kind::Record(fields), Json::Object(members)) => {
             match tested_fields(alloc, fields, members)? {
                 Tested::Fits(children) => Ok(Tested::Fits(Node::Branch(children))),
@@ -121,26 +108,75 @@ fn tested_child(
     }
 }
 
-// A field of a record, or the first fault of the member.
+// Puts the child that a value of a kind makes under a name behind the others, or tells the value's first fault.
+#[cycle(tested)]
+#[inline(never)]
+fn push_tree(
+    alloc: Global,
+    kind: &Kind,
+    name: Name,
+    member: Json,
+    children: &mut Vec<(Elem, Node)>,
+) -> Result<Option<Found>, AllocError>
+    requires { is_keyed (kind_view kind.now) ≡ true }
+    ensures { IfOk result (PushesTested (λ p. kinds.faults (kind_view kind.now) (view member) (p ++ field (string_bytes name) ∷ [])) (IsChild (field (string_bytes name)) (places (kind_view kind.now) (view member))) children.old.items children.new.items) }
+{
+    match tested_child(alloc, kind, name, member)? {
+        Tested::Fits(child) => {
+            children.push(child)?;
+            Ok(None)
+        }
+        Tested::Breaks(found) => Ok(Some(found)),
+    }
+}
+
+// Puts the child that a value of a kind makes under a name behind the others, or tells the value's first fault. Most
+// members are scalars, and are made where they stand.
 #[cycle(tested)]
 #[inline(always)]
-fn tested_field(
+fn push_child(
+    alloc: Global,
+    kind: &Kind,
+    name: Name,
+    member: Json,
+    children: &mut Vec<(Elem, Node)>,
+) -> Result<Option<Found>, AllocError>
+    requires { is_keyed (kind_view kind.now) ≡ true }
+    ensures { IfOk result (PushesTested (λ p. kinds.faults (kind_view kind.now) (view member) (p ++ field (string_bytes name) ∷ [])) (IsChild (field (string_bytes name)) (places (kind_view kind.now) (view member))) children.old.items children.new.items) }
+{
+    match (kind, member) {
+        (Kind::Scalar(wanted), Json::Scalar(scalar)) => {
+            if let Some(misfit) = scalar_misfit(&scalar, wanted) {
+                let found = Found::here(alloc, misfit);
+                return Ok(Some(below_name(alloc, found, name.as_str())?));
+            }
+            let leaf = Node::Leaf(Leaf::Scalar(scalar));
+            children.push((Elem::Field(name.into_text()), leaf))?;
+            Ok(None)
+        }
+        (_, member) => push_tree(alloc, kind, name, member, children),
+    }
+}
+
+// Puts the field of a record that a member makes behind the others, or tells the member's first fault.
+#[cycle(tested)]
+#[inline(always)]
+fn push_field(
     alloc: Global,
     fields: &Members<Kind>,
     near: &mut usize,
     name: Name,
     member: Json,
-) -> Result<Tested<(Elem, Node)>, AllocError>
+    children: &mut Vec<(Elem, Node)>,
+) -> Result<Option<Found>, AllocError>
     requires { are_keyed (fields_view fields.now.entries) ≡ true }
-    ensures { IfOk result (λ t. IsTested (member_faults (fields_view fields.now.entries) (string_bytes name) (view member)) (IsChild (field (string_bytes name)) (member_places (fields_view fields.now.entries) (string_bytes name) (view member))) t) }
+    ensures { IfOk result (PushesTested (member_faults (fields_view fields.now.entries) (string_bytes name) (view member)) (IsChild (field (string_bytes name)) (member_places (fields_view fields.now.entries) (string_bytes name) (view member))) children.old.items children.new.items) }
 {
-    match fields.get_near(near, name.as_str()) {
-        Some(kind) => tested_child(alloc, kind, name, member),
-        None => {
-            let unknown = Found::here(alloc, Misfit::UnknownField);
-            Ok(Tested::Breaks(below_name(alloc, unknown, name.as_str())?))
-        }
-    }
+    let Some(kind) = fields.get_near(near, name.as_str()) else {
+        let unknown = Found::here(alloc, Misfit::UnknownField);
+        return Ok(Some(below_name(alloc, unknown, name.as_str())?));
+    };
+    push_child(alloc, kind, name, member, children)
 }
 
 /// The fields of a record, in the order of their names, or the first fault of the members.
@@ -156,9 +192,8 @@ pub(crate) fn tested_fields(
     let mut children = Vec::with_capacity(alloc, members.len())?;
     let mut near = 0;
     for (name, member) in members.into_entries() {
-        match tested_field(alloc, fields, &mut near, name, member)? {
-            Tested::Fits(child) => children.push(child)?,
-            Tested::Breaks(found) => return Ok(Tested::Breaks(found)),
+        if let Some(found) = push_field(alloc, fields, &mut near, name, member, &mut children)? {
+            return Ok(Tested::Breaks(found));
         }
     }
     Ok(Tested::Fits(children))
@@ -176,9 +211,8 @@ fn tested_entries(
 {
     let mut children = Vec::with_capacity(alloc, members.len())?;
     for (name, member) in members.into_entries() {
-        match tested_child(alloc, inside, name, member)? {
-            Tested::Fits(child) => children.push(child)?,
-            Tested::Breaks(found) => return Ok(Tested::Breaks(found)),
+        if let Some(found) = push_child(alloc, inside, name, member, &mut children)? {
+            return Ok(Tested::Breaks(found));
         }
     }
     Ok(Tested::Fits(children))

@@ -9,9 +9,9 @@ use Rattle.ssa_model.specs.definitions.Path.{field, key, same_element, Path}
 use Rattle.ssa_model.specs.definitions.Kind as model
 use Rattle.ssa_model.specs.definitions.Body.{places, field_places, entry_places, item_places, key_order}
 use Rattle.ssa_json.specs.View.{view, items_view, members_view}
-use Rattle.ssa_json.proofs.Views.{view-Object}
+use Rattle.ssa_json.proofs.Views.{view-Scalar, view-Object}
 use Rattle.ssa_schema.specs.Finds.{Finds}
-use Rattle.ssa_schema.specs.Kinds.{kind_view, fields_view, names_view}
+use Rattle.ssa_schema.specs.Kinds.{kind_view, fields_view, names_view, scalar_kind_view}
 use Rattle.ssa_schema.specs.Refusals.{first_of}
 use Rattle.ssa_schema.specs.Repeats.{leading_keys, repeat_from}
 use Rattle.ssa_schema.specs.declared.fit.found.Misfit.TheVariants.{DuplicateItem, UnknownField}
@@ -19,17 +19,39 @@ use Rattle.ssa_schema.proofs.Finding.{breaks_here, finds_from}
 use Rattle.ssa_schema.proofs.Kinding.{kind_view-Record}
 use Rattle.ssa_schema.proofs.kind.Kind.TheLaws.{the_size}
 use Rattle.ssa_schema.proofs.Distinct.{view-List}
+use Rattle.ssa_path.specs.declared.element.Elem.TheVariants.{Field}
 use Rattle.ssa_typed.specs.Flats.{member_places, AreListed, AreNamed, IsChild, IsItem}
-use Rattle.ssa_typed.specs.Tested.{member_faults, own_item_faults, IsTested}
+use Rattle.ssa_typed.specs.Tested.{member_faults, own_item_faults, IsTested, PushesTested}
+use Rattle.ssa_typed.specs.declared.node.Leaf.TheVariants.{Scalar as ScalarLeaf}
+use Rattle.ssa_typed.specs.declared.node.Node.{Leaf}
 use Rattle.ssa_json.proofs.Converting.{Found as Entry}
-use Rattle.ssa_typed.proofs.Testing.{known-faults, unknown-faults, tested-from, testing-none, testing-step, testing-breaks, testing-end}
+use Rattle.ssa_typed.proofs.Testing.{known-faults, unknown-faults, pushed-from, leaf-tested, testing-none, testing-step, testing-breaks, testing-end}
 use Rattle.ssa_typed.proofs.TestingItems.{keys-wrong, keyed-from, items-none, items-step, items-breaks, items-end}
 use Rattle.ssa_typed.proofs.Fitting.{no-first}
-use Rattle.ssa_typed.proofs.Trees.{dict-made, field-found, found-within-deepest, items-made, keyed-at, kind_view-Dict, kind_view-ItemsOf, known-places, record-made, record-placed, record-tree}
+use Rattle.ssa_typed.proofs.Trees.{dict-made, field-found, found-within-deepest, items-made, keyed-at, kind_view-Dict, kind_view-ItemsOf, kind_view-Scalar, known-places, record-made, record-placed, record-tree}
 use Rattle.ssa_typed.proofs.tested.+tested.Goals as goal
 
-pub tested_field-tested_child-requires : goal.tested_field-tested_child-requires
-tested_field-tested_child-requires t c =
+pub push_tree-returns-in_ok-push-in-Fits : goal.push_tree-returns-in_ok-push-in-Fits
+push_tree-returns-in_ok-push-in-Fits t c =
+    let n = string_bytes c.args.name in
+    let k = kind_view c.args.kind.now in
+    let v = view c.args.member in (
+      c.in-Fits.child,
+      c.in_ok-push-in-Fits.ensures.items,
+      subst (IsTested (λ p. model.faults k v (p ++ field n ∷ [])) (IsChild (field n) (places k v))) c.in-Fits.is c.in_ok-child.ensures,
+    )
+
+pub push_child-returns-in_ok-push-in-Scalar-Scalar : goal.push_child-returns-in_ok-push-in-Scalar-Scalar
+push_child-returns-in_ok-push-in-Scalar-Scalar t c =
+    let w = c.in-Scalar-Scalar in (
+      (Field c.into_text.result, Leaf (ScalarLeaf w.scalar)),
+      c.in_ok-push-in-Scalar-Scalar.ensures.items,
+      leaf-tested (kind_view c.args.kind.now) (scalar_kind_view w.wanted) (view c.args.member) w.scalar c.into_text.result (string_bytes c.args.name)
+          (ap kind_view w.is-0 ∙ kind_view-Scalar w.wanted) (ap view w.is-1 ∙ view-Scalar w.scalar) c.into_text.ensures c.in_default-scalar_misfit.ensures,
+    )
+
+pub push_field-push_child-requires : goal.push_field-push_child-requires
+push_field-push_child-requires t c =
     let fs = fields_view c.args.fields.now.entries in
     let n = string_bytes c.args.name in
     let k = kind_view c.in-Some.kind.now in
@@ -41,8 +63,8 @@ tested_field-tested_child-requires t c =
     let deep = found-within-deepest the_size (is_at (λ m. slice_cmp nat_cmp c.as_str.result.now (string_bytes m))) c.args.fields.now.entries c.in-Some.kind.now there in
     (omega (arith, deep), keyed-at n fs k c.requires found)
 
-pub tested_field-returns-in-Some : goal.tested_field-returns-in-Some
-tested_field-returns-in-Some t c =
+pub push_field-returns : goal.push_field-returns
+push_field-returns t c =
     let fs = fields_view c.args.fields.now.entries in
     let n = string_bytes c.args.name in
     let v = view c.args.member in
@@ -51,29 +73,29 @@ tested_field-returns-in-Some t c =
     ap (λ m. model.kind_of m fs) (sym c.as_str.ensures.value)
     ∙ sym (field-found c.get_near.result c.as_str.result.now c.args.fields.now.entries c.get_near.ensures.value)
     ∙ ap (option_map (λ k. kind_view k.now)) c.in-Some.is in
-    IfOk-weaker c.tested_child.result _ _
-    (λ tested. tested-from (member_faults fs n v) (λ p. model.faults k v (p ++ field n ∷ [])) (IsChild (field n) (places k v))
-    (IsChild (field n) (member_places fs n v)) tested
+    IfOk-weaker c.push_child.result _ _
+    (λ o. pushed-from (member_faults fs n v) (λ p. model.faults k v (p ++ field n ∷ [])) (IsChild (field n) (places k v))
+    (IsChild (field n) (member_places fs n v)) c.args.children.now.items c.push_child.new.children.items o
     (λ p. ap first_of (known-faults fs n v k p found))
     (λ child is. record { element = is.element; placed = λ p. is.placed p ∙ sym (known-places n fs v k p found); tree = is.tree }))
-    c.tested_child.ensures
+    c.push_child.ensures
 
-pub tested_field-returns-in_ok-below_name-in-None : goal.tested_field-returns-in_ok-below_name-in-None
-tested_field-returns-in_ok-below_name-in-None t c =
+pub push_field-returns-in_default : goal.push_field-returns-in_default
+push_field-returns-in_default t c =
     let fs = fields_view c.args.fields.now.entries in
     let n = string_bytes c.args.name in
     let v = view c.args.member in
-    let below = c.in_ok-below_name-in-None.field-0 in
+    let below = c.in_ok-below_name.field-0 in
     let unknown : model.kind_of n fs ≡ None =
     ap (λ m. model.kind_of m fs) (sym c.as_str.ensures.value)
     ∙ sym (field-found c.get_near.result c.as_str.result.now c.args.fields.now.entries c.get_near.ensures.value)
-    ∙ ap (option_map (λ k. kind_view k.now)) c.in-None.is in
-    let found = c.in_ok-below_name-in-None.ensures (λ p. model.fault_at model.unknown_field p ∷ [])
+    ∙ ap (option_map (λ k. kind_view k.now)) c.in_default.is in
+    let found = c.in_ok-below_name.ensures (λ p. model.fault_at model.unknown_field p ∷ [])
     (breaks_here c.here-unknown.result UnknownField (λ p. model.fault_at model.unknown_field p ∷ []) c.here-unknown.ensures.misfit
     c.here-unknown.ensures.path (λ p. refl)) in
     finds_from (Some below) (member_faults fs n v) (λ p. model.fault_at model.unknown_field (p ++ field n ∷ []) ∷ [])
     (λ p. ap first_of (unknown-faults fs n v p unknown))
-    (subst (λ m. Finds (Some below) (λ p. model.fault_at model.unknown_field (p ++ field m ∷ []) ∷ [])) c.as_str-in-None.ensures.value found)
+    (subst (λ m. Finds (Some below) (λ p. model.fault_at model.unknown_field (p ++ field m ∷ []) ∷ [])) c.as_str-in_default.ensures.value found)
 
 pub tested_tree-returns-in-Fits : goal.tested_tree-returns-in-Fits
 tested_tree-returns-in-Fits t c =
@@ -119,13 +141,14 @@ tested_fields-loop-name-preserved t c =
     let n = string_bytes e.0 in
     let own = member_faults fs n (view e.1) in
     let rows_from = member_places fs n (view e.1) in
+    let pushed = subst (PushesTested own (IsChild (field n) rows_from) l.children.items c.push_field.new.children.items) c.in_default.is c.in_ok-found.ensures in
     testing-step (λ es. model.field_faults fs (members_view es)) (λ es. field_places fs (members_view es)) c.args.members.entries
-    (into_iter_items l.name-iterator) (into_iter_items c.next.new.self) e l.children.items c.push.new.self.items c.in-Fits.child own rows_from
+    (into_iter_items l.name-iterator) (into_iter_items c.next.new.self) e l.children.items c.push_field.new.children.items pushed.0 own rows_from
     c.in-Some.ensures.steps.0 (λ p. refl) (λ p. refl)
-    (subst (IsTested own (IsChild (field n) rows_from)) c.in-Fits.is c.in_ok-child.ensures) c.in_ok-push-in-Fits.ensures.items l.invariant
+    pushed.2 pushed.1 l.invariant
 
-pub tested_fields-returns-in-Breaks : goal.tested_fields-returns-in-Breaks
-tested_fields-returns-in-Breaks t c =
+pub tested_fields-returns-in-Some-2 : goal.tested_fields-returns-in-Some-2
+tested_fields-returns-in-Some-2 t c =
     let l = c.loop-name in
     let fs = fields_view c.args.fields.now.entries in
     let e : Entry = (c.in-Some.name, c.in-Some.member) in
@@ -133,9 +156,9 @@ tested_fields-returns-in-Breaks t c =
     let own = member_faults fs n (view e.1) in
     let rows_from = member_places fs n (view e.1) in
     testing-breaks (λ es. model.field_faults fs (members_view es)) (λ es. field_places fs (members_view es)) c.args.members.entries
-    (into_iter_items l.name-iterator) (into_iter_items c.next.new.self) e l.children.items c.in-Breaks.found own
+    (into_iter_items l.name-iterator) (into_iter_items c.next.new.self) e l.children.items c.in-Some-2.found own
     c.in-Some.ensures.steps.0 (λ p. refl)
-    (subst (IsTested own (IsChild (field n) rows_from)) c.in-Breaks.is c.in_ok-child.ensures) l.invariant
+    (subst (PushesTested own (IsChild (field n) rows_from) l.children.items c.push_field.new.children.items) c.in-Some-2.is c.in_ok-found.ensures) l.invariant
 
 pub tested_fields-returns : goal.tested_fields-returns
 tested_fields-returns t c =
@@ -161,13 +184,14 @@ tested_entries-loop-name-preserved t c =
     let n = string_bytes e.0 in
     let own = λ (p : Path). model.faults k (view e.1) (p ++ field n ∷ []) in
     let rows_from = places k (view e.1) in
+    let pushed = subst (PushesTested own (IsChild (field n) rows_from) l.children.items c.push_child.new.children.items) c.in_default.is c.in_ok-found.ensures in
     testing-step (λ es. model.entry_faults k (members_view es)) (λ es. entry_places k (members_view es)) c.args.members.entries
-    (into_iter_items l.name-iterator) (into_iter_items c.next.new.self) e l.children.items c.push.new.self.items c.in-Fits.child own rows_from
+    (into_iter_items l.name-iterator) (into_iter_items c.next.new.self) e l.children.items c.push_child.new.children.items pushed.0 own rows_from
     c.in-Some.ensures.steps.0 (λ p. refl) (λ p. refl)
-    (subst (IsTested own (IsChild (field n) rows_from)) c.in-Fits.is c.in_ok-child.ensures) c.in_ok-push-in-Fits.ensures.items l.invariant
+    pushed.2 pushed.1 l.invariant
 
-pub tested_entries-returns-in-Breaks : goal.tested_entries-returns-in-Breaks
-tested_entries-returns-in-Breaks t c =
+pub tested_entries-returns-in-Some-2 : goal.tested_entries-returns-in-Some-2
+tested_entries-returns-in-Some-2 t c =
     let l = c.loop-name in
     let k = kind_view c.args.inside.now in
     let e : Entry = (c.in-Some.name, c.in-Some.member) in
@@ -175,9 +199,9 @@ tested_entries-returns-in-Breaks t c =
     let own = λ (p : Path). model.faults k (view e.1) (p ++ field n ∷ []) in
     let rows_from = places k (view e.1) in
     testing-breaks (λ es. model.entry_faults k (members_view es)) (λ es. entry_places k (members_view es)) c.args.members.entries
-    (into_iter_items l.name-iterator) (into_iter_items c.next.new.self) e l.children.items c.in-Breaks.found own
+    (into_iter_items l.name-iterator) (into_iter_items c.next.new.self) e l.children.items c.in-Some-2.found own
     c.in-Some.ensures.steps.0 (λ p. refl)
-    (subst (IsTested own (IsChild (field n) rows_from)) c.in-Breaks.is c.in_ok-child.ensures) l.invariant
+    (subst (PushesTested own (IsChild (field n) rows_from) l.children.items c.push_child.new.children.items) c.in-Some-2.is c.in_ok-found.ensures) l.invariant
 
 pub tested_entries-returns : goal.tested_entries-returns
 tested_entries-returns t c =
