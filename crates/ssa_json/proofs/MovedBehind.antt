@@ -1,6 +1,6 @@
 -- Lists of which the last elements wait until they are moved behind others.
-use Rattle.std.proofs.Common.{◌≡◌, ℕ, ◌≤◌, List, [], ◌∷◌, ◌++◌, length, take, drop, sym, ap, subst₂, ◌∙◌, arith}
-use Rattle.std.proofs.lemmas.List.{append-nil, append_assoc, length-take-le, length_push, take_all, take-take, take-append-le, drop_all, drop-append-le}
+use Rattle.std.proofs.Common.{◌≡◌, ℕ, ◌≤◌, List, [], ◌∷◌, ◌++◌, length, take, drop, sym, ap, ◌∙◌, arith}
+use Rattle.std.proofs.lemmas.List.{append_assoc, length_push, take_all, take-append-le, drop_all, drop-append-le}
 
 module _ {X : Type 0} (n : ℕ) (outer : List X) where
   -- those that were found, and behind them those that wait from a place on, are all; before it wait the outer ones
@@ -15,20 +15,10 @@ module _ {X : Type 0} (n : ℕ) (outer : List X) where
     take_all n outer (omega (arith, e)),
   )
 
-  -- those that wait are moved behind those that were found
-  pub moved : (found waiting all new rest : List X) → Wait found waiting all
-      → new ≡ found ++ drop n waiting → rest ≡ take n waiting → Wait new rest all
-  moved found waiting all new rest wait e f =
-      let size = length-take-le n waiting wait.1 in
-      let none = ap (drop n) f ∙ drop_all n (take n waiting) (omega (arith, size)) in (
-        ap (λ xs. new ++ xs) none ∙ append-nil new ∙ e ∙ wait.0,
-        rw f (omega (arith, size)),
-        ap (take n) f ∙ take-take n n waiting (omega arith) ∙ wait.2,
-      )
-
-  -- none are moved
-  pub unmoved : (found waiting all new rest : List X) → Wait found waiting all → new ≡ found → rest ≡ waiting → Wait new rest all
-  unmoved found waiting all new rest wait e f = subst₂ (λ fs ws. Wait fs ws all) (sym e) (sym f) wait
+  -- those that were found and those that wait behind them are together as before, and so are the outer ones
+  pub still_wait : (found waiting all new rest : List X) → Wait found waiting all
+      → new ++ drop n rest ≡ found ++ drop n waiting → n ≤ length rest → take n rest ≡ take n waiting → Wait new rest all
+  still_wait found waiting all new rest wait e size f = (e ∙ wait.0, size, f ∙ wait.2)
 
   -- one more waits
   pub one_waits : (found waiting all new : List X) (x : X) → Wait found waiting all → new ≡ waiting ++ x ∷ [] → Wait found new (all ++ x ∷ [])

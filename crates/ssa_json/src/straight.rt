@@ -1,5 +1,5 @@
 //! Reads JSON text straight into values, where it has no part that is left out here.
-ghost use Rattle.std.specs.Prelude.{◌≡◌, ℕ, ◌<◌, ◌≤◌, ◌∷◌, Ok, Some, true, false, length, IfOk, IfSome, OnErr, OnOk};
+ghost use Rattle.std.specs.Prelude.{◌≡◌, ℕ, ◌<◌, ◌≤◌, [], ◌∷◌, Ok, Some, true, false, length, IfOk, IfSome, OnErr, OnOk};
 ghost use Rattle.json.specs.Json.{value, items, members};
 ghost use Rattle.json.specs.Reads.{token_of};
 ghost use Rattle.serde_json.specs.Data.{no_members};
@@ -13,7 +13,7 @@ ghost use Rattle.ssa_json.specs.Written.{data_of, items_data, members_data, is_n
 
 use crate::reading_room::ReadingRoom;
 use crate::value::{Json, Scalar};
-use crate::waiting::{MOST_WAITING, Waiting, move_behind};
+use crate::waiting::{Waiting, move_behind, move_many};
 use itoa::Buffer;
 use json::{Invalid, Reader, Token};
 use ssa_members::{Members, Name, SmallText};
@@ -63,9 +63,11 @@ fn whole_number(text: &str) -> Option<i64>
 }
 
 /// The value of bytes that are JSON text without a part that is left out here, as far as memory does. Each of its
-/// numbers is spelled as the program spells it.
+/// numbers is spelled as the program spells it. Where nothing waited in the room before, nothing does afterwards.
 pub fn read_straight(alloc: Global, room: &mut ReadingRoom, bytes: &[u8]) -> Option<Json>
-    ensures { IfSome result (λ v. json_reading bytes.now ≡ Ok (view v)) }
+    ensures value { IfSome result (λ v. json_reading bytes.now ≡ Ok (view v)) }
+    ensures pairs { room.old.waiting.pairs.items ≡ [] → room.new.waiting.pairs.items ≡ [] }
+    ensures items { room.old.waiting.items.items ≡ [] → room.new.waiting.items.items ≡ [] }
 {
     let Ok(text) = str::from_utf8(bytes) else {
         return None;
@@ -84,6 +86,8 @@ pub fn read_straight(alloc: Global, room: &mut ReadingRoom, bytes: &[u8]) -> Opt
 fn read_whole(alloc: Global, room: &mut ReadingRoom, text: &str) -> Result<Json, NotStraight>
     ensures ok { IfOk result (λ v. read_text text.now ≡ Some (data_of (view v))) }
     ensures narrow { IfOk result (λ v. is_narrow (view v) ≡ true) }
+    ensures pairs { OnOk result (room.new.waiting.pairs.items ≡ room.old.waiting.pairs.items) }
+    ensures items { OnOk result (room.new.waiting.items.items ≡ room.old.waiting.items.items) }
 {
     let mut reader = Reader::new(text, &mut room.scratch)?;
     let value = read_value(alloc, &mut reader, &mut room.waiting, MOST_DEPTH)?;
@@ -171,9 +175,7 @@ fn read_items(
     let start = waiting.items.len();
     let mut found = Vec::new(alloc);
     'items: while !reader.take_end_array() {
-        if waiting.items.len() - start == MOST_WAITING {
-            move_behind(&mut waiting.items, start, &mut found)?;
-        }
+        move_many(&mut waiting.items, start, &mut found)?;
         let item = read_value(alloc, reader, waiting, depth)?;
         waiting.items.push(item)?;
     }
@@ -220,9 +222,7 @@ fn read_pairs(
     let start = waiting.pairs.len();
     let mut found = Vec::new(alloc);
     'members: while let Some(name) = reader.next_key()? {
-        if waiting.pairs.len() - start == MOST_WAITING {
-            move_behind(&mut waiting.pairs, start, &mut found)?;
-        }
+        move_many(&mut waiting.pairs, start, &mut found)?;
         let token = reader.next().ok_or(NotStraight)?;
         if push_short(&mut waiting.pairs, name, &token)? {
             continue;

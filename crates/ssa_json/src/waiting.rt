@@ -6,7 +6,7 @@ use ssa_members::Name;
 use std::alloc::{AllocError, Global};
 
 // How many members of one object, or items of one list, wait at most.
-pub(crate) const MOST_WAITING: usize = 32;
+const MOST_WAITING: usize = 32;
 
 // Members and items that were read, those of inner objects and lists behind those of outer ones. They wait here until
 // their object or list ends, which then takes room for just as many, or until they are many.
@@ -56,4 +56,25 @@ where
         return Ok(());
     }
     found.append(&mut tail)
+}
+
+// The same where they are many. Those that were found and those that wait behind them are together as before, and so
+// are those that wait before the place.
+#[inline(always)]
+pub(crate) fn move_many<T>(
+    waiting: &mut Vec<T>,
+    start: usize,
+    found: &mut Vec<T>,
+) -> Result<(), AllocError>
+where
+    T: Drop,
+    requires { start ≤ length waiting.old.items }
+    ensures all { OnOk result (found.new.items ++ drop start waiting.new.items ≡ found.old.items ++ drop start waiting.old.items) }
+    ensures within { OnOk result (start ≤ length waiting.new.items) }
+    ensures outer { OnOk result (take start waiting.new.items ≡ take start waiting.old.items) }
+{
+    if waiting.len() - start < MOST_WAITING {
+        return Ok(());
+    }
+    move_behind(waiting, start, found)
 }

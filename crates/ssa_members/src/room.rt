@@ -27,7 +27,7 @@ where
 }
 
 /// Puts an element behind the others. The first one takes room for itself alone, where a vector's own `push`
-/// takes room for four: of many vectors with one element each, as JSON text can have, most of the memory
+/// takes room for four: of many vectors with one element each, as records and sets have, most of the memory
 /// would be such room. On `Err` the others are as they were.
 pub fn push_closely<T>(items: &mut Vec<T>, item: T) -> Result<(), AllocError>
 where

@@ -19,10 +19,8 @@ use Rattle.ssa_json.proofs.StraightData.{before, before-none, one_more}
 use Rattle.ssa_json.proofs.MembersMade.{made-of-pairs}
 use Rattle.ssa_json.proofs.PairsRead.{pair-read, pair-narrow}
 use Rattle.ssa_json.proofs.TokensRead.{array-read, object-read, item_read, items_over, members_over}
-use Rattle.ssa_json.proofs.MovedBehind.{Wait, none_wait, moved, unmoved, one_waits}
+use Rattle.ssa_json.proofs.MovedBehind.{none_wait, one_waits, still_wait}
 use Rattle.ssa_json.proofs.straight.+straight.Goals as goal
-use Rattle.ssa_json.proofs.straight.+straight.Goals.{read_items-then-len-start-eq-MOST_WAITING+in_ok-move_behind, read_items-else-len-start-eq-MOST_WAITING}
-use Rattle.ssa_json.proofs.straight.+straight.Goals.{read_pairs-then-len-start-eq-MOST_WAITING+in_ok-move_behind, read_pairs-else-len-start-eq-MOST_WAITING}
 
 pub value_from-returns-in_ok-from_str-in-String-clause-ok : goal.value_from-returns-in_ok-from_str-in-String-clause-ok
 value_from-returns-in_ok-from_str-in-String-clause-ok t c =
@@ -99,24 +97,12 @@ read_items-items-preserved t c =
     let less : length r < length l.reader = rw (← going.1) done.shorter in
     let turn = item_read p n l.reader r (data_of (view v)) (omega (arith, l.invariant.enough)) going.0 (rw (← going.1) done.ok) in
     let all = l.invariant.all in
-    let j = c.if-len-start-eq-MOST_WAITING in
     let start = c.len-start.result in
     let outer = c.args.waiting.now.items.items in
-    let found = j.found.items in
-    let waiting = j.waiting.items.items in
-    let moving = moved start outer l.found.items l.waiting.items.items all found waiting l.invariant.wait in
-    let staying = unmoved start outer l.found.items l.waiting.items.items all found waiting l.invariant.wait in
-    let room : Wait start outer found waiting all × (j.waiting.pairs.items ≡ l.waiting.pairs.items) = elim j.branch [
-      | read_items-then-len-start-eq-MOST_WAITING+in_ok-move_behind w ↦ (
-        moving (ap (λ f. f.items) w.found-is ∙ w.in_ok-move_behind.ensures.found)
-            (ap (λ q. q.items.items) w.waiting-is ∙ w.in_ok-move_behind.ensures.waiting),
-        ap (λ q. q.pairs.items) w.waiting-is,
-      )
-      | read_items-else-len-start-eq-MOST_WAITING w ↦ (
-        staying (ap (λ f. f.items) w.found-is) (ap (λ q. q.items.items) w.waiting-is),
-        ap (λ q. q.pairs.items) w.waiting-is,
-      )
-    ] in
+    let together = c.in_ok-move_many.ensures in
+    let found = c.move_many.new.found.items in
+    let waiting = c.move_many.new.waiting.items in
+    let wait = still_wait start outer l.found.items l.waiting.items.items all found waiting l.invariant.wait together.all together.within together.outer in
     let same : c.read_value.new.waiting.items.items ≡ waiting = done.items in
     let pushed = subst (λ ws. c.push.new.self.items ≡ ws ++ v ∷ []) same c.in_ok-push.ensures.items in
     record {
@@ -126,8 +112,8 @@ read_items-items-preserved t c =
       read = l.invariant.read ∙ ap (parse_map (before all)) turn ∙ one_more all v _;
       shorter = omega (arith, l.invariant.shorter);
       narrow = items_narrow-push all v l.invariant.narrow done.narrow;
-      wait = one_waits start outer found waiting all c.push.new.self.items v room.0 pushed;
-      pairs = done.pairs ∙ room.1 ∙ l.invariant.pairs;
+      wait = one_waits start outer found waiting all c.push.new.self.items v wait pushed;
+      pairs = done.pairs ∙ l.invariant.pairs;
     }
 
 pub read_items-returns-clause-ok : goal.read_items-returns-clause-ok
@@ -136,7 +122,7 @@ read_items-returns-clause-ok t c =
     let l = c.items in
     let n = l.invariant.most in
     let r = c.take_end_array.new.self in
-    let all : c.move_behind-2.new.found.items ≡ l.invariant.all = c.in_ok-move_behind-2.ensures.found ∙ l.invariant.wait.0 in
+    let all : c.move_behind.new.found.items ≡ l.invariant.all = c.in_ok-move_behind.ensures.found ∙ l.invariant.wait.0 in
     l.invariant.read ∙ ap (parse_map (before l.invariant.all)) (items_over p n l.reader r l.invariant.enough (grind arith))
     ∙ ap (λ ds. Some (ds, r)) (before-none l.invariant.all) ∙ ap (λ vs. Some (items_data (items_view vs), r)) (sym all)
 
@@ -167,31 +153,19 @@ read_pairs-members-preserved-then-branch t c =
     let less = read_key-shorter l.reader (Some k) s named in
     let size = ap (λ ts. length ts) first in
     let all = l.invariant.all in
-    let j = c.if-len-start-eq-MOST_WAITING in
     let start = c.len-start.result in
     let outer = c.args.waiting.now.pairs.items in
-    let found = j.found.items in
-    let waiting = j.waiting.pairs.items in
-    let moving = moved start outer l.found.items l.waiting.pairs.items all found waiting l.invariant.wait in
-    let staying = unmoved start outer l.found.items l.waiting.pairs.items all found waiting l.invariant.wait in
-    let room : Wait start outer found waiting all × (j.waiting.items.items ≡ l.waiting.items.items) = elim j.branch [
-      | read_pairs-then-len-start-eq-MOST_WAITING+in_ok-move_behind w ↦ (
-        moving (ap (λ f. f.items) w.found-is ∙ w.in_ok-move_behind.ensures.found)
-            (ap (λ q. q.pairs.items) w.waiting-is ∙ w.in_ok-move_behind.ensures.waiting),
-        ap (λ q. q.items.items) w.waiting-is,
-      )
-      | read_pairs-else-len-start-eq-MOST_WAITING w ↦ (
-        staying (ap (λ f. f.items) w.found-is) (ap (λ q. q.pairs.items) w.waiting-is),
-        ap (λ q. q.items.items) w.waiting-is,
-      )
-    ] in
+    let together = c.in_ok-move_many.ensures in
+    let found = c.move_many.new.found.items in
+    let waiting = c.move_many.new.waiting.items in
+    let wait = still_wait start outer l.found.items l.waiting.pairs.items all found waiting l.invariant.wait together.all together.within together.outer in
     record {
       all = all ++ put.0 ∷ [];
       read = pair-read k v put.0 all put.2 put.5 p c.args.reader.now l.reader s r named read (omega arith) l.invariant.read;
       shorter = omega (arith, l.invariant.shorter);
       narrow = pair-narrow k v put.0 all put.2 put.5 refl l.invariant.narrow;
-      wait = one_waits start outer found waiting all c.push_short.new.pairs.items put.0 room.0 put.1;
-      items = room.1 ∙ l.invariant.items;
+      wait = one_waits start outer found waiting all c.push_short.new.pairs.items put.0 wait put.1;
+      items = l.invariant.items;
     }
 
 pub read_pairs-members-preserved : goal.read_pairs-members-preserved
@@ -211,24 +185,12 @@ read_pairs-members-preserved t c =
     let size = ap (λ ts. length ts) first in
     let copied : string_bytes key ≡ k = search rules in
     let all = l.invariant.all in
-    let j = c.if-len-start-eq-MOST_WAITING in
     let start = c.len-start.result in
     let outer = c.args.waiting.now.pairs.items in
-    let found = j.found.items in
-    let waiting = j.waiting.pairs.items in
-    let moving = moved start outer l.found.items l.waiting.pairs.items all found waiting l.invariant.wait in
-    let staying = unmoved start outer l.found.items l.waiting.pairs.items all found waiting l.invariant.wait in
-    let room : Wait start outer found waiting all × (j.waiting.items.items ≡ l.waiting.items.items) = elim j.branch [
-      | read_pairs-then-len-start-eq-MOST_WAITING+in_ok-move_behind w ↦ (
-        moving (ap (λ f. f.items) w.found-is ∙ w.in_ok-move_behind.ensures.found)
-            (ap (λ q. q.pairs.items) w.waiting-is ∙ w.in_ok-move_behind.ensures.waiting),
-        ap (λ q. q.items.items) w.waiting-is,
-      )
-      | read_pairs-else-len-start-eq-MOST_WAITING w ↦ (
-        staying (ap (λ f. f.items) w.found-is) (ap (λ q. q.pairs.items) w.waiting-is),
-        ap (λ q. q.items.items) w.waiting-is,
-      )
-    ] in
+    let together = c.in_ok-move_many.ensures in
+    let found = c.move_many.new.found.items in
+    let waiting = c.move_many.new.waiting.items in
+    let wait = still_wait start outer l.found.items l.waiting.pairs.items all found waiting l.invariant.wait together.all together.within together.outer in
     let kept = c.in_ok-push_short.ensures.kept c.if-branch.false in
     let same : c.value_from.new.waiting.pairs.items ≡ waiting = done.pairs ∙ kept in
     let pushed = subst (λ ws. c.push.new.self.items ≡ ws ++ (key, v) ∷ []) same c.in_ok-push.ensures.items in
@@ -237,8 +199,8 @@ read_pairs-members-preserved t c =
       read = pair-read k (view v) (key, v) all copied refl p c.args.reader.now l.reader s r named read (omega arith) l.invariant.read;
       shorter = omega (arith, l.invariant.shorter);
       narrow = pair-narrow k (view v) (key, v) all copied refl done.narrow l.invariant.narrow;
-      wait = one_waits start outer found waiting all c.push.new.self.items (key, v) room.0 pushed;
-      items = done.items ∙ room.1 ∙ l.invariant.items;
+      wait = one_waits start outer found waiting all c.push.new.self.items (key, v) wait pushed;
+      items = done.items ∙ l.invariant.items;
     }
 
 pub read_pairs-returns-clause-ok : goal.read_pairs-returns-clause-ok
@@ -246,6 +208,6 @@ read_pairs-returns-clause-ok t c = λ found most enough.
     let l = c.members in
     let before = l.invariant.read found most enough in
     let old = members_data (put_in_turn l.invariant.all found) in
-    let all : c.move_behind-2.new.found.items ≡ l.invariant.all = c.in_ok-move_behind-2.ensures.found ∙ l.invariant.wait.0 in
+    let all : c.move_behind.new.found.items ≡ l.invariant.all = c.in_ok-move_behind.ensures.found ∙ l.invariant.wait.0 in
     before.2 ∙ members_over (value c.args.depth) old before.0 l.reader c.next_key.new.self before.1 (grind arith)
     ∙ ap (λ ps. Some (members_data (put_in_turn ps found), c.next_key.new.self)) (sym all)

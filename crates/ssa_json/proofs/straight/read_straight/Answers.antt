@@ -6,8 +6,8 @@ use Rattle.ssa_json.proofs.Converting.{json_reading-data}
 use Rattle.ssa_json.proofs.ReadingBack.{value_of-data_of}
 use Rattle.ssa_json.proofs.straight.read_straight.Goals as goal
 
-pub returns-in-Ok-read_whole : goal.returns-in-Ok-read_whole
-returns-in-Ok-read_whole c =
+pub returns-in-Ok-read_whole-clause-value : goal.returns-in-Ok-read_whole-clause-value
+returns-in-Ok-read_whole-clause-value c =
     let v = view c.in-Ok-read_whole.value in
     let text = c.in-Ok.ensures.cases in
     json_reading-data c.args.bytes.now (data_of v) text.1 (ap read (sym text.0) ∙ c.in-Ok-read_whole.ensures.ok)
