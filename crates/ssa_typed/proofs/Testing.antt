@@ -8,7 +8,7 @@ use Rattle.ssa_members.specs.Texts.{text_bytes}
 use Rattle.ssa_members.specs.declared.small_text.SmallText.{SmallText}
 use Rattle.ssa_model.specs.definitions.Json.{Text, Json, scalar, list, object, Members, no_members, member, same_text}
 use Rattle.ssa_model.specs.definitions.Path.{field, Path}
-use Rattle.ssa_model.specs.definitions.Kind.{Kind, ScalarKind, Fields, FaultAt, faults, field_faults, fault_unless, is_of, kind_of, record_of, scalar_kind, fault_at, unknown_field, wrong_type}
+use Rattle.ssa_model.specs.definitions.Kind.{Kind, Fields, FaultAt, faults, field_faults, fault_unless, is_of, kind_of, record_of, scalar_kind, fault_at, unknown_field, wrong_type}
 use Rattle.ssa_model.specs.definitions.Body.{leaf, places, is_empty_object, without_empty_metadata}
 use Rattle.ssa_model.specs.definitions.Lawful.{is_some_record}
 use Rattle.ssa_model.proofs.Tables.{same_text-true}
@@ -17,13 +17,13 @@ use Rattle.ssa_json.specs.declared.value.Scalar.{Scalar}
 use Rattle.ssa_json.proofs.Converting.{Found as Entry}
 use Rattle.ssa_json.proofs.Ordered.{names}
 use Rattle.ssa_schema.specs.Refusals.{first_of}
-use Rattle.ssa_schema.specs.Finds.{Finds, Breaks, told}
+use Rattle.ssa_schema.specs.Finds.{Finds, told}
 use Rattle.ssa_schema.specs.declared.fit.found.Found.{Found}
 use Rattle.ssa_schema.proofs.Finding.{finds_from, finds_first, none_first}
 use Rattle.ssa_path.specs.declared.element.Elem.TheVariants.{Field}
 use Rattle.ssa_typed.specs.Flats.{rows_at, AreNamed, IsChild}
 use Rattle.ssa_typed.specs.Rows.{Row, rows}
-use Rattle.ssa_typed.specs.Tested.{member_faults, IsTested, PushesTested}
+use Rattle.ssa_typed.specs.Tested.{is_fitting_scalar, member_faults, IsTested, PushesTested}
 use Rattle.ssa_typed.specs.declared.node.Leaf.TheVariants.{Scalar as ScalarLeaf}
 use Rattle.ssa_typed.specs.declared.node.Node.{Leaf, the_lemmas}
 use Rattle.ssa_typed.specs.declared.tested.Tested.TheVariants.{Fits}
@@ -40,18 +40,20 @@ pushed-from whole here made more old new (Some f) same so h = finds_from (Some f
 leaf-rows : (s : Scalar) → rows (Leaf (ScalarLeaf s)) ≡ ([], leaf (scalar_view s)) ∷ []
 leaf-rows s = search (rules, the_lemmas)
 
--- a scalar without a fault is made a leaf
-pub leaf-tested : (k : Kind) (w : ScalarKind) (v : Json) (s : Scalar) (t : SmallText) (n : Text) → k ≡ scalar_kind w → v ≡ scalar (scalar_view s)
-    → text_bytes t ≡ n → Breaks None (fault_unless (is_of w (scalar_view s)) wrong_type)
+-- a scalar of a kind that takes it has no fault, and is made a leaf
+pub leaf-tested : (k : Kind) (v : Json) (s : Scalar) (t : SmallText) (n : Text) → is_fitting_scalar k v ≡ true → v ≡ scalar (scalar_view s) → text_bytes t ≡ n
     → IsTested (λ p. faults k v (p ++ field n ∷ [])) (IsChild (field n) (places k v)) (Fits (Field t, Leaf (ScalarLeaf s)))
-leaf-tested k w v s t n kind value name fits = (
-  λ p. ap (option_map told) (fits (p ++ field n ∷ []) ∙ (λ i. first_of (faults (sym kind i) (sym value i) (p ++ field n ∷ [])))),
-  record {
-    element = ap field name;
-    placed = λ p. ap (rows_at p) (leaf-rows s) ∙ ap (λ q. (q, leaf (scalar_view s)) ∷ []) (append-nil p) ∙ (λ i. places (sym kind i) (sym value i) p);
-    tree = search (rules, the_lemmas);
-  },
-)
+leaf-tested (scalar_kind w) v s t n fits value name =
+    let takes : is_of w (scalar_view s) ≡ true = ap (is_fitting_scalar (scalar_kind w)) (sym value) ∙ fits in (
+      λ p. ap (λ b. option_map told (first_of (fault_unless b wrong_type (p ++ field n ∷ [])))) (sym takes)
+          ∙ (λ i. option_map told (first_of (faults (scalar_kind w) (sym value i) (p ++ field n ∷ [])))),
+      record {
+        element = ap field name;
+        placed = λ p. ap (rows_at p) (leaf-rows s) ∙ ap (λ q. (q, leaf (scalar_view s)) ∷ []) (append-nil p) ∙ (λ i. places (scalar_kind w) (sym value i) p);
+        tree = search (rules, the_lemmas);
+      },
+    )
+leaf-tested _ v s t n fits value name = absurd (true≢false (sym fits))
 
 -- ---- members
 

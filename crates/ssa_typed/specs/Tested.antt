@@ -1,8 +1,8 @@
 -- Values that are tested while their trees are made.
-use Rattle.std.specs.Prelude.{◌≡◌, Bool, List, [], ◌∷◌, ◌++◌, Option, None, Some}
-use Rattle.ssa_model.specs.definitions.Json.{Text, Json, object}
+use Rattle.std.specs.Prelude.{◌≡◌, Bool, false, List, [], ◌∷◌, ◌++◌, Option, None, Some}
+use Rattle.ssa_model.specs.definitions.Json.{Text, Json, object, scalar}
 use Rattle.ssa_model.specs.definitions.Path.{field, Path}
-use Rattle.ssa_model.specs.definitions.Kind.{Fields, FaultAt, faults, fault_at, key_faults, kind_of, or_else, unknown_field, wrong_type}
+use Rattle.ssa_model.specs.definitions.Kind.{Kind, Fields, FaultAt, faults, fault_at, is_of, key_faults, kind_of, or_else, scalar_kind, unknown_field, wrong_type}
 use Rattle.ssa_schema.specs.Finds.{Finds, keyed_faults}
 use Rattle.ssa_schema.specs.declared.fit.found.Found.{Found}
 use Rattle.ssa_typed.specs.declared.tested.Tested.{Tested}
@@ -17,6 +17,11 @@ IsTested here made (Breaks f) = Finds (Some f) here
 abbrev pub PushesTested : {X : Type 0} → (Path → List FaultAt) → (X → Type 0) → List X → List X → Option Found → Type 0
 PushesTested here made old new None = (x : _) × (new ≡ old ++ x ∷ []) × IsTested here made (Fits x)
 PushesTested here made old new (Some f) = IsTested here made (Breaks f)
+
+-- the value is a scalar of a kind that takes it
+abbrev pub is_fitting_scalar : Kind → Json → Bool
+is_fitting_scalar (scalar_kind k) (scalar s) = is_of k s
+is_fitting_scalar _ _ = false
 
 -- the faults of a member at the path of its object
 abbrev pub member_faults : Fields → Text → Json → Path → List FaultAt

@@ -9,6 +9,7 @@ use ssa_json::value::{Json, Scalar};
 use ssa_members::Members;
 
 /// The scalar that a value is.
+#[inline(always)]
 pub fn into_scalar(value: Json) -> Scalar
     requires { IsScalar (view value) }
     ensures { view value ≡ values.scalar (scalar_view result) }

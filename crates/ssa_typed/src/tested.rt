@@ -8,20 +8,19 @@ ghost use Rattle.ssa_json.specs.View.{view, items_view, members_view};
 ghost use Rattle.ssa_schema.specs.Finds.{Finds};
 ghost use Rattle.ssa_schema.specs.Kinds.{kind_view, fields_view, names_view};
 ghost use Rattle.ssa_typed.specs.Flats.{member_places, AreListed, AreNamed, IsChild, IsItem, IsTreeOf};
-ghost use Rattle.ssa_typed.specs.Tested.{member_faults, own_item_faults, IsTested, PushesTested};
+ghost use Rattle.ssa_typed.specs.Tested.{is_fitting_scalar, member_faults, own_item_faults, IsTested, PushesTested};
 
 use crate::build::tree_of;
 use crate::item_keys::keys_of;
 use crate::node::{Leaf, Node};
+use crate::parts::into_scalar;
 use ssa_json::value::Json;
 use ssa_members::{Members, Name};
 use ssa_path::element::Elem;
 use ssa_path::element_text::key_name;
 use ssa_path::keys::Keys;
 use ssa_schema::kind::Kind;
-use ssa_schema::{
-    Found, Misfit, field_name, is_other, keys_misfit, repeated_item, scalar_misfit, value_fault,
-};
+use ssa_schema::{Found, Misfit, field_name, is_other, keys_misfit, repeated_item, value_fault};
 use std::alloc::{AllocError, Global};
 
 /// What was made of a value that fits, or the value's first fault.
@@ -130,8 +129,19 @@ fn push_tree(
     }
 }
 
+// Whether the value is a scalar of a kind that takes it.
+#[inline(always)]
+fn is_fitting_scalar(kind: &Kind, value: &Json) -> bool
+    ensures { result ≡ is_fitting_scalar (kind_view kind.now) (view value.now) }
+{
+    match (kind, value) {
+        (Kind::Scalar(wanted), Json::Scalar(scalar)) => wanted.has(scalar),
+        _ => false,
+    }
+}
+
 // Puts the child that a value of a kind makes under a name behind the others, or tells the value's first fault. Most
-// members are scalars, and are made where they stand.
+// members are scalars that fit, and are made where they stand.
 #[cycle(tested)]
 #[inline(always)]
 fn push_child(
@@ -144,18 +154,25 @@ fn push_child(
     requires { is_keyed (kind_view kind.now) ≡ true }
     ensures { IfOk result (PushesTested (λ p. kinds.faults (kind_view kind.now) (view member) (p ++ field (string_bytes name) ∷ [])) (IsChild (field (string_bytes name)) (places (kind_view kind.now) (view member))) children.old.items children.new.items) }
 {
-    match (kind, member) {
-        (Kind::Scalar(wanted), Json::Scalar(scalar)) => {
-            if let Some(misfit) = scalar_misfit(&scalar, wanted) {
-                let found = Found::here(alloc, misfit);
-                return Ok(Some(below_name(alloc, found, name.as_str())?));
-            }
-            let leaf = Node::Leaf(Leaf::Scalar(scalar));
-            children.push((Elem::Field(name.into_text()), leaf))?;
-            Ok(None)
-        }
-        (_, member) => push_tree(alloc, kind, name, member, children),
+    if !is_fitting_scalar(kind, &member) {
+        // (taken out of the result of the call, so that what the frequent way tells need not stand where a call writes)
+        let told = push_tree(alloc, kind, name, member, children)?;
+        return Ok(told);
     }
+    let scalar = into_scalar(member);
+    let leaf = Node::Leaf(Leaf::Scalar(scalar));
+    children.push((Elem::Field(name.into_text()), leaf))?;
+    Ok(None)
+}
+
+// The fault of a member whose name the record has no field of. It is rare, and apart: what it holds on the stack would be
+// cleared for each member.
+#[inline(never)]
+fn unknown_field(alloc: Global, name: &str) -> Result<Found, AllocError>
+    ensures { IfOk result (λ f. Finds (Some f) (λ p. kinds.fault_at kinds.unknown_field (p ++ field name.now ∷ []) ∷ [])) }
+{
+    let unknown = Found::here(alloc, Misfit::UnknownField);
+    below_name(alloc, unknown, name)
 }
 
 // Puts the field of a record that a member makes behind the others, or tells the member's first fault.
@@ -173,8 +190,7 @@ fn push_field(
     ensures { IfOk result (PushesTested (member_faults (fields_view fields.now.entries) (string_bytes name) (view member)) (IsChild (field (string_bytes name)) (member_places (fields_view fields.now.entries) (string_bytes name) (view member))) children.old.items children.new.items) }
 {
     let Some(kind) = fields.get_near(near, name.as_str()) else {
-        let unknown = Found::here(alloc, Misfit::UnknownField);
-        return Ok(Some(below_name(alloc, unknown, name.as_str())?));
+        return Ok(Some(unknown_field(alloc, name.as_str())?));
     };
     push_child(alloc, kind, name, member, children)
 }

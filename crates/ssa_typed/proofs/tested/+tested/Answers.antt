@@ -9,12 +9,12 @@ use Rattle.ssa_model.specs.definitions.Path.{field, key, same_element, Path}
 use Rattle.ssa_model.specs.definitions.Kind as model
 use Rattle.ssa_model.specs.definitions.Body.{places, field_places, entry_places, item_places, key_order}
 use Rattle.ssa_json.specs.View.{view, items_view, members_view}
-use Rattle.ssa_json.proofs.Views.{view-Scalar, view-Object}
+use Rattle.ssa_json.proofs.Views.{view-Object}
 use Rattle.ssa_schema.specs.Finds.{Finds}
-use Rattle.ssa_schema.specs.Kinds.{kind_view, fields_view, names_view, scalar_kind_view}
+use Rattle.ssa_schema.specs.Kinds.{kind_view, fields_view, names_view}
 use Rattle.ssa_schema.specs.Refusals.{first_of}
 use Rattle.ssa_schema.specs.Repeats.{leading_keys, repeat_from}
-use Rattle.ssa_schema.specs.declared.fit.found.Misfit.TheVariants.{DuplicateItem, UnknownField}
+use Rattle.ssa_schema.specs.declared.fit.found.Misfit.TheVariants.{DuplicateItem}
 use Rattle.ssa_schema.proofs.Finding.{breaks_here, finds_from}
 use Rattle.ssa_schema.proofs.Kinding.{kind_view-Record}
 use Rattle.ssa_schema.proofs.kind.Kind.TheLaws.{the_size}
@@ -28,7 +28,7 @@ use Rattle.ssa_json.proofs.Converting.{Found as Entry}
 use Rattle.ssa_typed.proofs.Testing.{known-faults, unknown-faults, pushed-from, leaf-tested, testing-none, testing-step, testing-breaks, testing-end}
 use Rattle.ssa_typed.proofs.TestingItems.{keys-wrong, keyed-from, items-none, items-step, items-breaks, items-end}
 use Rattle.ssa_typed.proofs.Fitting.{no-first}
-use Rattle.ssa_typed.proofs.Trees.{dict-made, field-found, found-within-deepest, items-made, keyed-at, kind_view-Dict, kind_view-ItemsOf, kind_view-Scalar, known-places, record-made, record-placed, record-tree}
+use Rattle.ssa_typed.proofs.Trees.{dict-made, field-found, found-within-deepest, items-made, keyed-at, kind_view-Dict, kind_view-ItemsOf, known-places, record-made, record-placed, record-tree}
 use Rattle.ssa_typed.proofs.tested.+tested.Goals as goal
 
 pub push_tree-returns-in_ok-push-in-Fits : goal.push_tree-returns-in_ok-push-in-Fits
@@ -41,14 +41,13 @@ push_tree-returns-in_ok-push-in-Fits t c =
       subst (IsTested (λ p. model.faults k v (p ++ field n ∷ [])) (IsChild (field n) (places k v))) c.in-Fits.is c.in_ok-child.ensures,
     )
 
-pub push_child-returns-in_ok-push-in-Scalar-Scalar : goal.push_child-returns-in_ok-push-in-Scalar-Scalar
-push_child-returns-in_ok-push-in-Scalar-Scalar t c =
-    let w = c.in-Scalar-Scalar in (
-      (Field c.into_text.result, Leaf (ScalarLeaf w.scalar)),
-      c.in_ok-push-in-Scalar-Scalar.ensures.items,
-      leaf-tested (kind_view c.args.kind.now) (scalar_kind_view w.wanted) (view c.args.member) w.scalar c.into_text.result (string_bytes c.args.name)
-          (ap kind_view w.is-0 ∙ kind_view-Scalar w.wanted) (ap view w.is-1 ∙ view-Scalar w.scalar) c.into_text.ensures c.in_default-scalar_misfit.ensures,
-    )
+pub push_child-returns : goal.push_child-returns
+push_child-returns t c = (
+  (Field c.into_text.result, Leaf (ScalarLeaf c.into_scalar-scalar.result)),
+  c.in_ok-push.ensures.items,
+  leaf-tested (kind_view c.args.kind.now) (view c.args.member) c.into_scalar-scalar.result c.into_text.result (string_bytes c.args.name)
+      (sym c.is_fitting_scalar.ensures ∙ c.if-not-is_fitting_scalar.false) c.into_scalar-scalar.ensures c.into_text.ensures,
+)
 
 pub push_field-push_child-requires : goal.push_field-push_child-requires
 push_field-push_child-requires t c =
@@ -85,17 +84,15 @@ push_field-returns-in_default t c =
     let fs = fields_view c.args.fields.now.entries in
     let n = string_bytes c.args.name in
     let v = view c.args.member in
-    let below = c.in_ok-below_name.field-0 in
+    let below = c.in_ok-unknown_field.field-0 in
     let unknown : model.kind_of n fs ≡ None =
     ap (λ m. model.kind_of m fs) (sym c.as_str.ensures.value)
     ∙ sym (field-found c.get_near.result c.as_str.result.now c.args.fields.now.entries c.get_near.ensures.value)
     ∙ ap (option_map (λ k. kind_view k.now)) c.in_default.is in
-    let found = c.in_ok-below_name.ensures (λ p. model.fault_at model.unknown_field p ∷ [])
-    (breaks_here c.here-unknown.result UnknownField (λ p. model.fault_at model.unknown_field p ∷ []) c.here-unknown.ensures.misfit
-    c.here-unknown.ensures.path (λ p. refl)) in
     finds_from (Some below) (member_faults fs n v) (λ p. model.fault_at model.unknown_field (p ++ field n ∷ []) ∷ [])
     (λ p. ap first_of (unknown-faults fs n v p unknown))
-    (subst (λ m. Finds (Some below) (λ p. model.fault_at model.unknown_field (p ++ field m ∷ []) ∷ [])) c.as_str-in_default.ensures.value found)
+    (subst (λ m. Finds (Some below) (λ p. model.fault_at model.unknown_field (p ++ field m ∷ []) ∷ [])) c.as_str-in_default.ensures.value
+    c.in_ok-unknown_field.ensures)
 
 pub tested_tree-returns-in-Fits : goal.tested_tree-returns-in-Fits
 tested_tree-returns-in-Fits t c =
