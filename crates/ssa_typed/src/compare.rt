@@ -402,6 +402,24 @@ fn differing_below(
     if stand_in_order_alike(before, after) {
         return differing_alike(alloc, scope, before, after);
     }
+    differing_apart(alloc, scope, before, after)
+}
+
+// What differs below two nodes, whose children are first put in the order of their elements. Apart, since both lists of
+// them would stand on the stack, and be cleared, for nodes that have no need of them.
+#[cycle(differing)]
+#[inline(never)]
+fn differing_apart(
+    alloc: Global,
+    scope: Scope,
+    before: &Node,
+    after: &Node,
+) -> Result<PartsBelow, AllocError>
+    requires before { is_tree before.now ≡ true }
+    requires after { is_tree after.now ≡ true }
+    ensures told { IfOk result (λ v. AreDiffering scope before.now after.now v) }
+    ensures repeats { IfOk result (λ v. v.repeats ≡ true → HaveOver (below before.now) (below after.now) (below before.now)) }
+{
     let own = &before.ordered(alloc)?;
     let others = &after.ordered(alloc)?;
     let told = differing_beside(alloc, scope, before, after, own, others)?;

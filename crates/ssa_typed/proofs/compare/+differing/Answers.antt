@@ -43,7 +43,7 @@ differing_alike-push_differing-requires t c =
     let other = alike-other c.args.scope n m cs ds c.children-own.ensures.own c.children-others.ensures.own c.requires.same c.requires.rise i r s
     c.loop-i-test.true c.index-own-i.is (ap (get_or ds i) c.index-others-i.is) in
     let small = smaller n (element_view r.0) r.1 own in
-    let falls : 6 * length (rows r.1) + 5 < 6 * length (rows n) = omega arith in
+    let falls : 7 * length (rows r.1) + 6 < 7 * length (rows n) = omega arith in
     (search (rules, falls), (tree-child n (element_view r.0) r.1 c.requires.before own, tree-child m (element_view s.0) s.1 c.requires.after other))
 
 pub differing_alike-loop-i-preserved : goal.differing_alike-loop-i-preserved
@@ -102,7 +102,7 @@ differing_beside-push_differing-requires t c =
     let other = left-other (below n) (below m) (lent_children c.args.own.now) (lent_children c.args.others.now) c.requires.left c.loop-order.j s
     c.requires.others c.at-in-Equal-2.ensures.read in
     let small = smaller n (element_view r.0) r.1 own in
-    let falls : 6 * length (rows r.1) + 5 < 6 * length (rows n) = omega arith in
+    let falls : 7 * length (rows r.1) + 6 < 7 * length (rows n) = omega arith in
     (search (rules, falls), (tree-child n (element_view r.0) r.1 c.requires.before own, tree-child m (element_view s.0) s.1 c.requires.after other))
 
 pub differing_beside-loop-order-preserved-in-Less : goal.differing_beside-loop-order-preserved-in-Less
@@ -157,8 +157,8 @@ push_differing-returns-in-Leaf-Leaf-clause-told t c =
     (λ told. subst₂ (λ n m. AreToldBoth c.args.scope (c.args.child.now.0, n) m c.args.told.now c.push_leaf.new.told) (sym leaves.is-0) (sym leaves.is-1)
     (told c.args.scope))
 
-pub differing_below-differing_beside-requires : goal.differing_below-differing_beside-requires
-differing_below-differing_beside-requires t c =
+pub differing_apart-differing_beside-requires : goal.differing_apart-differing_beside-requires
+differing_apart-differing_beside-requires t c =
     let n = c.args.before.now in
     let m = c.args.after.now in
     let own = c.in_ok-own.ensures in
