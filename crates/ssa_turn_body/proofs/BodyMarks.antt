@@ -49,7 +49,8 @@ body-same n m tn tm same =
 
 -- ---- elements that rise are told by their members
 
-below-any : (e x : Element) (fs : List Element) → is_below e fs ≡ true → list_any (same_element x) fs ≡ true → is_lt (element_cmp e x) ≡ true
+-- an element that stands before all of these stands before each of them
+pub below-any : (e x : Element) (fs : List Element) → is_below e fs ≡ true → list_any (same_element x) fs ≡ true → is_lt (element_cmp e x) ≡ true
 below-any e x [] h a = absurd (true≢false (sym a))
 below-any e x (f ∷ fs) h a =
     elim (same_element x f) as (λ b. same_element x f ≡ b → (b || list_any (same_element x) fs) ≡ true → is_lt (element_cmp e x) ≡ true) [
@@ -57,12 +58,14 @@ below-any e x (f ∷ fs) h a =
       | false ↦ λ t u. below-any e x fs (both_second (is_lt (element_cmp e f)) _ h) u
     ] refl a
 
-both-ways : (e f : Element) → is_lt (element_cmp e f) ≡ true → is_lt (element_cmp f e) ≡ true → ⊥
+-- no element stands before another and behind it
+pub both-ways : (e f : Element) → is_lt (element_cmp e f) ≡ true → is_lt (element_cmp f e) ≡ true → ⊥
 both-ways e f a b =
     let round : element_cmp e e ≡ Less = element_cmp_total.trans e f e (lower _ a) (lower _ b) in
     true≢false (sym (same_element-itself e) ∙ ap is_eq round)
 
-SameMembers : List Element → List Element → Type 0
+-- the same elements, in any order
+unfoldable pub SameMembers : List Element → List Element → Type 0
 SameMembers es fs = (x : Element) → list_any (same_element x) es ≡ list_any (same_element x) fs
 
 or_other : (a b : Bool) → a ≡ false → (a || b) ≡ true → b ≡ true
@@ -112,7 +115,8 @@ Ordered record_branch es = rises es ≡ true
 Ordered dict_branch es = rises es ≡ true
 Ordered (list_branch os) es = os ≡ es
 
-same-ordered : (c : Content) (es fs : List Element) → Ordered c es → Ordered c fs → SameMembers es fs → es ≡ fs
+-- children of the same elements stand in one order, where one content tells it
+pub same-ordered : (c : Content) (es fs : List Element) → Ordered c es → Ordered c fs → SameMembers es fs → es ≡ fs
 same-ordered (leaf s) es fs a b same = rising-same es fs a b same
 same-ordered (atom v) es fs a b same = rising-same es fs a b same
 same-ordered record_branch es fs a b same = rising-same es fs a b same

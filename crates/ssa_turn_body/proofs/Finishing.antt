@@ -238,7 +238,7 @@ pub own-order : (v : Node) → is_tree v ≡ true → with_order (own_content v)
 own-order v tree = order-kept (own_content v) (elements (below v)) (ordered v tree)
 
 -- whether it is a leaf, by the content of the other place
-branch-there : (c d : Content) → are_alike (Some c) (Some d) ≡ true → is_leaf (Some c) ≡ is_leaf (Some d)
+pub branch-there : (c d : Content) → are_alike (Some c) (Some d) ≡ true → is_leaf (Some c) ≡ is_leaf (Some d)
 branch-there (leaf s) (leaf t) h = refl
 branch-there (leaf s) (atom t) h = refl
 branch-there (leaf s) record_branch h = absurd (true≢false (sym h))

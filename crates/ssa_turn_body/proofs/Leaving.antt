@@ -47,15 +47,19 @@ module _ (ts : List (Elem × Trie)) (rise : rises (elements ts) ≡ true) (e : E
     pub here-gone : gone_below ts (e ∷ []) ≡ (out-Trie t).here
     here-gone = any-below same_path same_path-reading e ts [] rise ∙ ap (λ o. found same_path o []) there ∙ one-level-root t
 
-    -- where it is not, what goes behind the element is told by the tries below its own
+    -- what goes below the child is told by the tries below its own
+    pub behind-more : (f : Element) (q : Path) → gone_below ts (e ∷ f ∷ q) ≡ gone_below (below_set t) (f ∷ q)
+    behind-more f q =
+        any-below same_path same_path-reading e ts (f ∷ q) rise ∙ ap (λ o. found same_path o (f ∷ q)) there
+        ∙ any-level same_path same_path-reading t f q
+
+    -- where the child stays, what goes behind the element is told by the tries below its own
     pub behind-trie : (out-Trie t).here ≡ false → behind e (gone_below ts) ≡ gone_below (below_set t)
     behind-trie here = λ i q. at q i
       where
         at : (q : Path) → gone_below ts (e ∷ q) ≡ gone_below (below_set t) q
         at [] = here-gone ∙ here ∙ sym (one-below-root (below_set t))
-        at (f ∷ q) =
-            any-below same_path same_path-reading e ts (f ∷ q) rise ∙ ap (λ o. found same_path o (f ∷ q)) there
-            ∙ any-level same_path same_path-reading t f q
+        at (f ∷ q) = behind-more f q
 
 -- a tree of which nothing goes stays as it is
 pub unlooked : (gone : Gone) (n : Node) → is_tree n ≡ true → ((q : Path) → is_some (content_at (rows n) q) ≡ true → gone q ≡ false) → IsApplied gone n None n

@@ -3,7 +3,7 @@ use Rattle.std.proofs.Common.{◌≡◌, ◌+◌, ◌≤◌, List, [], ◌∷◌
 use Rattle.std.proofs.lemmas.List.{reverse-append}
 use Rattle.std.specs.Prelude.{is_some, if◌then◌else◌}
 use Rattle.ssa_model.specs.definitions.Json.{same_scalar, same_json}
-use Rattle.ssa_model.specs.definitions.Body.{Content, leaf, atom}
+use Rattle.ssa_model.specs.definitions.Body.{Content, leaf, atom, record_branch, dict_branch, list_branch, is_leaf}
 use Rattle.ssa_model.specs.definitions.Path.{Element, Path, under}
 use Rattle.ssa_model.specs.definitions.Record.{new_order}
 use Rattle.ssa_model.proofs.Scalars.{same_scalar-true}
@@ -170,12 +170,25 @@ leading-leaf p own to old new other other_back h = record {
 
 -- ---- whether leaves differ
 
+-- contents of leaves that do not differ are one
+pub contents-same : (c d : Content) → is_leaf (Some c) ≡ true → is_leaf (Some d) ≡ true → is_swapped c d ≡ false → c ≡ d
+contents-same (leaf a) (leaf b) lc ld h = ap leaf (same_scalar-true a b (not_not _ h))
+contents-same (leaf a) (atom w) lc ld h = absurd (true≢false h)
+contents-same (leaf a) record_branch lc ld h = absurd (true≢false (sym ld))
+contents-same (leaf a) dict_branch lc ld h = absurd (true≢false (sym ld))
+contents-same (leaf a) (list_branch fs) lc ld h = absurd (true≢false (sym ld))
+contents-same (atom v) (leaf b) lc ld h = absurd (true≢false h)
+contents-same (atom v) (atom w) lc ld h = ap atom (same_json-true v w (not_not _ h))
+contents-same (atom v) record_branch lc ld h = absurd (true≢false (sym ld))
+contents-same (atom v) dict_branch lc ld h = absurd (true≢false (sym ld))
+contents-same (atom v) (list_branch fs) lc ld h = absurd (true≢false (sym ld))
+contents-same record_branch d lc ld h = absurd (true≢false (sym lc))
+contents-same dict_branch d lc ld h = absurd (true≢false (sym lc))
+contents-same (list_branch es) d lc ld h = absurd (true≢false (sym lc))
+
 -- leaves that are not told to differ have one content
 pub leaves-same : (l m : Leaf) → is_swapped (leaf_content l) (leaf_content m) ≡ false → leaf_content l ≡ leaf_content m
-leaves-same (Scalar s) (Scalar t) h = ap leaf (same_scalar-true (scalar_view s) (scalar_view t) (not_not _ h))
-leaves-same (Scalar s) (Atomic v) h = absurd (true≢false h)
-leaves-same (Atomic v) (Scalar t) h = absurd (true≢false h)
-leaves-same (Atomic v) (Atomic w) h = ap atom (same_json-true (view v) (view w) (not_not _ h))
+leaves-same l m = contents-same (leaf_content l) (leaf_content m) (leaf-there l) (leaf-there m)
 
 -- two leaves differ the same either way round
 pub swapped-back : (l m : Leaf) → is_swapped (leaf_content m) (leaf_content l) ≡ is_swapped (leaf_content l) (leaf_content m)

@@ -234,7 +234,7 @@ fn walk_children<'a>(
 // The changes that lead from one tree to another, those of inner places first, behind the others.
 // What comes is moved out of the second tree.
 #[cycle(walk)]
-fn walk<'a>(
+pub(crate) fn walk<'a>(
     alloc: Global,
     way: &mut Vec<&'a Elem>,
     from: &'a Node,
