@@ -1,5 +1,5 @@
 //! The walk over two trees of the same places, which differ in leaves that are told.
-ghost use Rattle.std.specs.Prelude.{◌≡◌, drop, true, IfOk, OnOk, ◌++◌, ◌∷◌, []};
+ghost use Rattle.std.specs.Prelude.{◌≡◌, ◌∷◌, ◌++◌, [], drop, true, IfOk, OnOk};
 ghost use Rattle.std.specs.Option.{option_copied};
 ghost use Rattle.ssa_path.specs.Children.{elements, rises, IsChildAt};
 ghost use Rattle.ssa_path.specs.Listing.{way_view};
@@ -55,8 +55,9 @@ fn swap_behind<'a>(
     Ok(())
 }
 
-// The changes in the child at a place, and the place of the next that is told behind it. Most children are leaves that
-// are not told: of these the element alone is looked at.
+// The changes in the child at a place, and which is the next that is told behind it. Most children are leaves that are
+// not told: of these the element alone is looked at, and where no more is told not even that. Others that are not told
+// may hold lists, whose orders nothing tells.
 #[cycle(leaves)]
 #[inline(always)]
 fn swap_child<'a>(
@@ -124,6 +125,7 @@ fn swap_children<'a>(
 /// The changes that lead from one tree to another of the same places, which differs from it in these leaves and in the
 /// orders of lists, those of inner places first, behind the others. What comes is moved out of the second tree.
 #[cycle(leaves)]
+#[inline(always)]
 pub(crate) fn swap_leaves<'a>(
     alloc: Global,
     way: &mut Vec<&'a Elem>,
