@@ -18,6 +18,7 @@ ghost use Rattle.ssa_turn_table.specs.Turning.{HasTableRoom, table_steps};
 use crate::between::{change_to, is_same_moment, make_table_room, new_moment};
 use crate::delta::{EntryChange, Here, TableDelta};
 use ssa_json::moment::Moment;
+use ssa_members::push_closely;
 use ssa_merge::manager::ManagerKey;
 use ssa_merge::managers::Entry;
 use ssa_merge::table_change::{self, TableChange, count_kept};
@@ -222,7 +223,8 @@ fn gone_by(
     Ok(gone)
 }
 
-// The manager that comes, behind those that stay: they are counted where one comes.
+// The manager that comes, behind those that stay: they are counted where one comes. A record keeps it for long, with no more
+// room than for one.
 fn here_by(
     alloc: Global,
     told: &[table_change::EntryChange],
@@ -235,7 +237,7 @@ fn here_by(
     if let Some(entry) = newcomer {
         let key = entry.key.copy(alloc)?;
         let place = count_kept(told);
-        here.push(Here { place, entry, key })?;
+        push_closely(&mut here, Here { place, entry, key })?;
     }
     Ok(here)
 }
