@@ -90,6 +90,7 @@ fn read_past<R: Source>(
     room: &mut usize,
     bench: &mut Bench,
     count: usize,
+    number: &mut usize,
 ) -> Result<(), LoadFault>
     requires first { past_len bench.old.timeline ≡ 0 }
     requires few { length bench.old.timeline.later + count ≤ most_past }
@@ -98,6 +99,7 @@ fn read_past<R: Source>(
     ensures failed { result ≡ Err LoadFault.Io → R.has_failed reader.new ≡ true }
 {
     for _ in 0..count {
+        *number = number.saturating_add(1);
         let line = next_line(alloc, reader, room)?;
         bench.go_back_by(alloc, &line)?;
     }
@@ -111,6 +113,7 @@ fn read_future<R: Source>(
     room: &mut usize,
     bench: &mut Bench,
     count: usize,
+    number: &mut usize,
 ) -> Result<(), LoadFault>
     requires few { past_len bench.old.timeline + count ≤ most_past }
     ensures read { ReadsMoves appended count (R.remaining reader.old) (R.remaining reader.new) room.old room.new bench.old bench.new result }
@@ -119,6 +122,7 @@ fn read_future<R: Source>(
     ensures failed { result ≡ Err LoadFault.Io → R.has_failed reader.new ≡ true }
 {
     for _ in 0..count {
+        *number = number.saturating_add(1);
         let line = next_line(alloc, reader, room)?;
         bench.go_on_by(alloc, &line)?;
     }
@@ -144,15 +148,17 @@ fn read_history<R: Source>(
     room: &mut usize,
     bench: &mut Bench,
     counts: &RecordCounts,
+    number: &mut usize,
 ) -> Result<(), LoadFault>
     requires lone { bench.old.timeline ≡ lone_state bench.old.timeline.first }
     requires few { counts.now.past + counts.now.future ≤ most_past }
     ensures read { ReadsHistory counts.now.past counts.now.future (R.remaining reader.old) (R.remaining reader.new) room.old bench.old bench.new result }
     ensures failed { result ≡ Err LoadFault.Io → R.has_failed reader.new ≡ true }
 {
-    read_past(alloc, reader, room, bench, counts.past)?;
+    read_past(alloc, reader, room, bench, counts.past, number)?;
     bench.go_to(counts.past);
-    read_future(alloc, reader, room, bench, counts.future)?;
+    read_future(alloc, reader, room, bench, counts.future, number)?;
+    *number = number.saturating_add(1);
     read_end(alloc, reader, room)?;
     bench.go_to(counts.past);
     Ok(())
@@ -176,13 +182,30 @@ impl Bench {
         ensures loaded { Loads (R.remaining reader.old) (R.remaining reader.new) result }
         ensures failed { result ≡ Err LoadFault.Io → R.has_failed reader.new ≡ true }
     {
+        let mut number = 0;
+        Bench::load_telling(alloc, reader, &mut number)
+    }
+
+    /// [`load`](Bench::load), which also tells the number of the line that it came to, from 1: of a bench that is refused,
+    /// that of the first faulty line, or of the one that is missing. For people: no contract speaks of it.
+    pub fn load_telling<R: Source>(
+        alloc: Global,
+        reader: &mut R,
+        number: &mut usize,
+    ) -> Result<Bench, LoadFault>
+        ensures loaded { Loads (R.remaining reader.old) (R.remaining reader.new) result }
+        ensures failed { result ≡ Err LoadFault.Io → R.has_failed reader.new ≡ true }
+    {
         recorded_lines();
         recorded_files();
         let mut room = MOST_FILE_BYTES;
+        *number = 1;
         let counts = read_counts(alloc, reader, &mut room)?;
+        *number = 2;
         let schema = read_schema(alloc, reader, &mut room)?;
+        *number = 3;
         let mut bench = read_present(alloc, reader, &mut room, schema)?;
-        read_history(alloc, reader, &mut room, &mut bench, &counts)?;
+        read_history(alloc, reader, &mut room, &mut bench, &counts, number)?;
         bench.is_valid();
         bench.paths_are_read();
         Ok(bench)

@@ -1,5 +1,5 @@
 -- The lines that tell why a call of the program does not come to its reply.
-use Rattle.std.specs.Prelude.{◌≡◌, ◌<◌, ℕ, length, ◌/◌, ◌%◌, [], ◌∷◌, ◌++◌, ◌||◌, ◌==◌, ◌⊎◌, Bool, if◌then◌else◌, nat_lt, flat_map, slice_index, codes}
+use Rattle.std.specs.Prelude.{◌≡◌, ◌<◌, ℕ, length, ◌/◌, ◌%◌, [], ◌∷◌, ◌++◌, ◌||◌, ◌==◌, ◌⊎◌, Bool, if◌then◌else◌, nat_lt, flat_map, slice_index, codes, string_bytes}
 use Rattle.ssa_model.specs.definitions.Json.{Text, compact}
 use Rattle.ssa_model.specs.definitions.Limits.{most_bench_bytes}
 use Rattle.ssa_model.specs.definitions.Faults.{bench_too_long}
@@ -10,7 +10,7 @@ use Rattle.ssa_session.specs.Files.{IsTold}
 use Rattle.ssa_program.specs.declared.status.Status.{Status}
 use Rattle.ssa_program.specs.declared.status.Status.TheVariants.{Refused, Broken}
 use Rattle.ssa_program.specs.declared.trouble.Trouble.{Trouble}
-use Rattle.ssa_program.specs.declared.trouble.Trouble.TheVariants.{CannotRead, CannotWrite, Load, File, BenchTooLong, OutOfMemory, SessionBroken, CannotPrint}
+use Rattle.ssa_program.specs.declared.trouble.Trouble.TheVariants.{CannotRead, CannotWrite, NoPlainFile, OwnSource, DraftIsThere, Load, File, BenchTooLong, OutOfMemory, SessionBroken, CannotPrint, SavedUnprinted}
 
 -- ---- names of files
 
@@ -24,9 +24,17 @@ hex_digit n = slice_index (codes "0123456789abcdef") n
 abbrev pub escaped_byte : ℕ → Text
 escaped_byte b = if is_control b then codes "\\x" ++ hex_digit (b / 16) ∷ hex_digit (b % 16) ∷ [] else b ∷ []
 
+abbrev pub escaped : Text → Text
+escaped name = flat_map escaped_byte name
+
 -- what is told of the file of this name
-abbrev pub named_line : Text → Text → Text
-named_line told name = told ++ flat_map escaped_byte name
+abbrev pub named_line : Text → Text → Text → Text
+named_line before name after = (before ++ escaped name) ++ after
+
+-- what is told where the draft beside the bench of this name is there
+abbrev pub draft_line : Text → Text → Text
+draft_line draft bench = (named_line (codes "ssabench: ") draft (codes " is there: another call is at work on ") ++ escaped bench)
+    ++ codes ", or one broke off; if none is, remove it"
 
 -- ---- troubles
 
@@ -34,20 +42,39 @@ named_line told name = told ++ flat_map escaped_byte name
 -- the line of want of memory stands in its place.
 module _ (Replies Person : Text → Type 0) where
   abbrev pub Tells : Trouble → Type 0
-  Tells (CannotRead name) = Person (named_line (codes "ssabench: cannot read ") name.now) ⊎ Replies out_of_memory_text
-  Tells (CannotWrite name) = Person (named_line (codes "ssabench: cannot write ") name.now) ⊎ Replies out_of_memory_text
+  Tells (CannotRead name) = Person (named_line (codes "ssabench: cannot read ") name.now []) ⊎ Replies out_of_memory_text
+  Tells (CannotWrite name) = Person (named_line (codes "ssabench: cannot write ") name.now []) ⊎ Replies out_of_memory_text
+  Tells (NoPlainFile name) = Person (named_line (codes "ssabench: ") name.now (codes " is no plain file")) ⊎ Replies out_of_memory_text
+  Tells (OwnSource name) = Person (named_line (codes "ssabench: ") name.now (codes " is the schema or the object itself")) ⊎ Replies out_of_memory_text
+  Tells (DraftIsThere draft bench) = Person (draft_line (string_bytes draft) bench.now) ⊎ Replies out_of_memory_text
   Tells (Load f) = Replies (compact (fault_json (load_code f)))
   Tells (File f) = ((line : Text) × IsTold f line × Replies line) ⊎ Replies out_of_memory_text
   Tells BenchTooLong = Replies (compact (fault_json bench_too_long))
   Tells OutOfMemory = Replies out_of_memory_text
   Tells SessionBroken = Person (codes "ssabench: session ended unsaved")
   Tells CannotPrint = Unit {0}
+  Tells (SavedUnprinted name) = Person (named_line (codes "ssabench: ") name.now (codes " is saved, but the reply cannot be printed")) ⊎ Replies out_of_memory_text
 
 -- the trouble of reading the file of this name
 abbrev pub IsReadTrouble : Text → Trouble → Type 0
 IsReadTrouble name (CannotRead n) = n.now ≡ name
 IsReadTrouble name OutOfMemory = Unit {0}
 IsReadTrouble name _ = ⊥
+
+-- of looking where the bench's name leads to
+abbrev pub IsPlaceTrouble : Text → Trouble → Type 0
+IsPlaceTrouble name (NoPlainFile n) = n.now ≡ name
+IsPlaceTrouble name OutOfMemory = Unit {0}
+IsPlaceTrouble name _ = ⊥
+
+-- of making the draft of the bench's file
+abbrev pub IsDraftTrouble : Text → Trouble → Type 0
+IsDraftTrouble name (CannotRead n) = n.now ≡ name
+IsDraftTrouble name (CannotWrite n) = n.now ≡ name
+IsDraftTrouble name (NoPlainFile n) = n.now ≡ name
+IsDraftTrouble name (DraftIsThere draft n) = n.now ≡ name
+IsDraftTrouble name OutOfMemory = Unit {0}
+IsDraftTrouble name _ = ⊥
 
 -- of loading the bench's file
 abbrev pub IsLoadTrouble : Text → Trouble → Type 0

@@ -1,19 +1,15 @@
-//! The files that the words name: what is read of them, and how a bench is saved.
-ghost use Rattle.std.specs.Prelude.{◌≡◌, ◌≤◌, ◌<◌, Err, IfErr, OnOk, length};
-ghost use Rattle.ssa_model.specs.definitions.RecordedBench.{recorded_text};
-ghost use Rattle.ssa_model.specs.definitions.Limits.{most_bench_bytes};
-ghost use Rattle.ssa_program.specs.Trouble.{IsLoadTrouble, IsReadTrouble, IsSaveTrouble};
+//! The files that the words name, read.
+ghost use Rattle.std.specs.Prelude.{IfErr};
+ghost use Rattle.ssa_program.specs.Trouble.{IsLoadTrouble, IsReadTrouble};
 
+use crate::notes::Notes;
 use crate::trouble::Trouble;
 use ssa_bench::bench::Bench;
-use ssa_file::saving::SaveFault;
+use ssa_file::saving::MOST_FILE_BYTES;
 use ssa_json::reader::OfReader;
-use ssa_json::sink::OfWriter;
 use ssa_session::files::MOST_INPUT_BYTES;
-use std::alloc::Global;
-use std::fs;
-use std::fs::{File, OpenFile};
-use std::io::{BufReader, ErrorKind, Read, Write};
+use std::fs::File;
+use std::io::{BufReader, ErrorKind, Read};
 use std::rt::Files;
 
 /// The bytes of a file: at most one more than the limit, by which a file that is too long is told.
@@ -34,82 +30,29 @@ pub fn read_file<'a, T: Files + AllocGlobal>(rt: &T, name: &'a str) -> Result<Ve
     }
 }
 
-/// The bench of a bench file.
-pub fn load_bench<'a, T: Files + AllocGlobal>(rt: &T, name: &'a str) -> Result<Bench, Trouble<'a>>
+/// The bench of a bench file, of which no more is read than the longest one has, and one byte. Which line is refused goes to
+/// the notes.
+pub fn load_bench<'a, T: Files + AllocGlobal>(
+    rt: &T,
+    notes: &mut Notes,
+    name: &'a str,
+) -> Result<Bench, Trouble<'a>>
     ensures { IfErr result (IsLoadTrouble name.now) }
 {
     let Ok(file) = File::open(rt, name) else {
         return Err(Trouble::CannotRead(name));
     };
+    let file = file.take(MOST_FILE_BYTES as u64 + 1);
     let Ok(reader) = BufReader::new(rt.alloc(), file) else {
         return Err(Trouble::OutOfMemory);
     };
     let mut source = OfReader::new(reader);
-    match Bench::load(rt.alloc(), &mut source) {
+    let mut line = 0;
+    match Bench::load_telling(rt.alloc(), &mut source, &mut line) {
         Ok(bench) => Ok(bench),
-        Err(fault) => Err(Trouble::Load(fault)),
+        Err(fault) => {
+            notes.about_bench(rt.alloc(), name, line, &fault);
+            Err(Trouble::Load(fault))
+        }
     }
-}
-
-// Writes the bench's text, and waits until the device has it.
-fn write_bench<F: Write + OpenFile + Drop>(
-    alloc: Global,
-    file: F,
-    bench: &Bench,
-) -> Result<(), SaveFault>
-    ensures fits { OnOk result (length (recorded_text bench.now) ≤ most_bench_bytes) }
-    ensures too_long { result ≡ Err SaveFault.BenchTooLong → most_bench_bytes < length (recorded_text bench.now) }
-{
-    let mut sink = OfWriter::new(file);
-    bench.save(alloc, &mut sink)?;
-    match sink.into_inner().sync_all() {
-        Ok(()) => Ok(()),
-        Err(_) => Err(SaveFault::Io),
-    }
-}
-
-// Writes the bench to the draft, and puts the draft in the place of the named file.
-fn replace_file<'a, T: Files + AllocGlobal>(
-    rt: &T,
-    draft: &str,
-    file: T::File,
-    name: &'a str,
-    bench: &Bench,
-) -> Result<(), Trouble<'a>>
-    ensures fits { OnOk result (length (recorded_text bench.now) ≤ most_bench_bytes) }
-    ensures trouble { IfErr result (IsSaveTrouble name.now (recorded_text bench.now)) }
-{
-    match write_bench(rt.alloc(), file, bench) {
-        Ok(()) => {}
-        Err(SaveFault::BenchTooLong) => return Err(Trouble::BenchTooLong),
-        Err(SaveFault::OutOfMemory) => return Err(Trouble::OutOfMemory),
-        Err(SaveFault::Io) => return Err(Trouble::CannotWrite(name)),
-    }
-    match fs::rename(rt, draft, name) {
-        Ok(()) => Ok(()),
-        Err(_) => Err(Trouble::CannotWrite(name)),
-    }
-}
-
-/// Saves the bench under the name. Until all of it is written to a draft beside it, the named file is as it was; where
-/// it cannot be saved, the draft is removed.
-pub fn save_bench<'a, T: Files + AllocGlobal>(
-    rt: &T,
-    name: &'a str,
-    bench: &Bench,
-) -> Result<(), Trouble<'a>>
-    ensures fits { OnOk result (length (recorded_text bench.now) ≤ most_bench_bytes) }
-    ensures trouble { IfErr result (IsSaveTrouble name.now (recorded_text bench.now)) }
-{
-    let Ok(draft) = [name, ".new"].concat(rt.alloc()) else {
-        return Err(Trouble::OutOfMemory);
-    };
-    let Ok(file) = File::create(rt, draft.as_str()) else {
-        return Err(Trouble::CannotWrite(name));
-    };
-    let saved = replace_file(rt, draft.as_str(), file, name, bench);
-    if saved.is_err() {
-        let _removed = fs::remove_file(rt, draft.as_str());
-    }
-    saved
 }

@@ -18,6 +18,7 @@
 
 pub mod answer;
 pub mod asked;
+pub mod draft;
 pub mod files;
 pub mod notes;
 pub mod perform;

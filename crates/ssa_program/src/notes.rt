@@ -10,6 +10,7 @@ use ssa_explain::identity::{push_missing_part, push_other_part};
 use ssa_explain::json::push_unread;
 use ssa_explain::path::push_refused_element;
 use ssa_explain::way::push_member;
+use ssa_file::loading::LoadFault;
 use ssa_file::saving::write_text;
 use ssa_json::fault::JsonFault;
 use ssa_json::sink::Sink;
@@ -65,6 +66,16 @@ impl Notes {
         self.keep(object_lines(alloc, name, bytes, schema, fault));
     }
 
+    /// Which line of a bench file is refused, where its bytes are at fault.
+    pub fn about_bench(&mut self, alloc: Global, name: &str, number: usize, fault: &LoadFault) {
+        let told = match fault {
+            LoadFault::BenchText => "is not as a bench file has it",
+            LoadFault::RecordDoesNotFit => "is not the record from the state before it",
+            LoadFault::Io | LoadFault::OutOfMemory => return,
+        };
+        self.keep(bench_line(alloc, name, number, told));
+    }
+
     /// Where a subcommand is refused that the bench, which is as it was, has refused. Its object is that of the named
     /// file.
     pub fn about_command(&mut self, alloc: Global, bench: &Bench, asked: Asked<'_>, name: &str) {
@@ -80,15 +91,21 @@ impl Notes {
 
 // The beginning of a line about a file.
 fn begun(alloc: Global, name: &str) -> Result<Vec<u8>, AllocError> {
-    let mut text = named_line(alloc, "ssabench: ", name)?;
-    text.extend_from_slice(b": ")?;
-    Ok(text)
+    named_line(alloc, "ssabench: ", name, ": ")
 }
 
 // The line, with its end.
 fn ended(mut text: Vec<u8>) -> Result<Vec<u8>, AllocError> {
     text.push(b'\n')?;
     Ok(text)
+}
+
+// A line about a line of a bench file.
+fn bench_line(alloc: Global, name: &str, number: usize, told: &str) -> Result<Vec<u8>, AllocError> {
+    let mut text = begun(alloc, name)?;
+    let line = format!(in alloc; "line {number} {told}")?;
+    text.extend_from_slice(line.as_bytes())?;
+    ended(text)
 }
 
 // A line about bytes that are no value, or too many.

@@ -9,7 +9,8 @@ ghost use Rattle.ssa_program.specs.Status.{status_for};
 
 use crate::answer::{Reply, answer};
 use crate::asked::Asked;
-use crate::files::{load_bench, read_file, save_bench};
+use crate::draft::{Draft, Place, end_draft, lock_bench, put_draft, take_draft};
+use crate::files::{load_bench, read_file};
 use crate::notes::Notes;
 use crate::status::Status;
 use crate::trouble::{Trouble, tell_trouble};
@@ -91,13 +92,13 @@ fn carry_out<'a, T: Files + AllocGlobal, R: Source, W: Sink>(
                 Change::Update { manager, at },
             )
         }
-        Call::Strip { bench } => ask(rt, writer, notes, bench, Asked::Strip),
-        Call::Undo { bench } => ask(rt, writer, notes, bench, Asked::Undo),
-        Call::Redo { bench } => ask(rt, writer, notes, bench, Asked::Redo),
-        Call::Show { bench, managed } => ask(rt, writer, notes, bench, Asked::Show { managed }),
-        Call::Owners { bench, path } => ask(rt, writer, notes, bench, Asked::Owners { path }),
-        Call::Log { bench } => ask(rt, writer, notes, bench, Asked::Log),
-        Call::Session { bench } => hold_session(rt, reader, writer, bench),
+        Call::Strip { bench } => move_bench(rt, writer, notes, bench, Asked::Strip),
+        Call::Undo { bench } => move_bench(rt, writer, notes, bench, Asked::Undo),
+        Call::Redo { bench } => move_bench(rt, writer, notes, bench, Asked::Redo),
+        Call::Show { bench, managed } => look(rt, writer, notes, bench, Asked::Show { managed }),
+        Call::Owners { bench, path } => look(rt, writer, notes, bench, Asked::Owners { path }),
+        Call::Log { bench } => look(rt, writer, notes, bench, Asked::Log),
+        Call::Session { bench } => hold_session(rt, reader, writer, notes, bench),
     }
 }
 
@@ -135,7 +136,8 @@ fn made_bench<'a>(
     }
 }
 
-// Makes a bench of a schema file, which is tested whole first, and an object file.
+// Makes a bench of a schema file, which is tested whole first, and an object file. What the bench would take the place of is
+// looked at before.
 fn init<'a, T: Files + AllocGlobal, W: Sink>(
     rt: &T,
     writer: &mut W,
@@ -145,24 +147,35 @@ fn init<'a, T: Files + AllocGlobal, W: Sink>(
     bench: &'a str,
 ) -> Result<Status, Trouble<'a>> {
     let alloc = rt.alloc();
+    let place = Place::of(rt, bench)?;
+    if place.is_file_of(rt, schema) || place.is_file_of(rt, object) {
+        return Err(Trouble::OwnSource(bench));
+    }
     let schema_bytes = read_file(rt, schema)?;
     let read = made_schema(alloc, notes, schema, &schema_bytes)?;
     let object_bytes = read_file(rt, object)?;
     let made = made_bench(alloc, notes, read, &schema_bytes, object, &object_bytes)?;
-    save_and_tell(rt, writer, bench, &made)
+    let made = ManuallyDrop::new(made);
+    save_new(rt, writer, place, bench, &made)
 }
 
 // Saves a bench that was made, and writes the reply.
-fn save_and_tell<'a, T: Files + AllocGlobal, W: Sink>(
+fn save_new<'a, T: Files + AllocGlobal, W: Sink>(
     rt: &T,
     writer: &mut W,
+    place: Place,
     name: &'a str,
     bench: &Bench,
 ) -> Result<Status, Trouble<'a>> {
     let reply = init_text(rt.alloc(), bench)?;
-    save_bench(rt, name, bench)?;
-    write_reply(writer, reply)?;
-    Ok(Status::Done)
+    let mut draft = take_draft(rt, place, name)?;
+    let saved = put_draft(rt, &mut draft, name, bench);
+    end_draft(rt, draft);
+    saved?;
+    match write_reply(writer, reply) {
+        Ok(()) => Ok(Status::Done),
+        Err(_) => Err(Trouble::SavedUnprinted(name)),
+    }
 }
 
 // A command that a file gives the object of.
@@ -207,39 +220,73 @@ fn change_bench<'a, T: Files + AllocGlobal, W: Sink>(
     file: &'a str,
     change: Change<'_>,
 ) -> Result<Status, Trouble<'a>> {
-    let mut held = load_bench(rt, bench)?;
-    change_by_file(rt, writer, notes, bench, file, &mut held, change)
+    let mut draft = lock_bench(rt, bench)?;
+    let ended = change_by_file(rt, writer, notes, &mut draft, bench, file, change);
+    end_draft(rt, draft);
+    ended
 }
 
-// Changes a bench by the object of a file.
+// Changes the bench of a file, whose draft is taken, by the object of another. (Benches are not dropped: the program ends with
+// its call, and all memory with it.)
 fn change_by_file<'a, T: Files + AllocGlobal, W: Sink>(
     rt: &T,
     writer: &mut W,
     notes: &mut Notes,
+    draft: &mut Draft<T::File>,
     name: &'a str,
     file: &'a str,
-    bench: &mut Bench,
     change: Change<'_>,
 ) -> Result<Status, Trouble<'a>> {
+    let mut bench = ManuallyDrop::new(load_bench(rt, notes, name)?);
     let object = read_file(rt, file)?;
     let asked = change.asked(&object);
-    answer_and_save(rt, writer, notes, name, file, bench, asked)
+    answer_and_save(rt, writer, notes, draft, name, file, &mut bench, asked)
 }
 
-// Asks the bench of a file what needs no other file.
-fn ask<'a, T: Files + AllocGlobal, W: Sink>(
+// Moves the bench of a file, or strips it, which needs no other file.
+fn move_bench<'a, T: Files + AllocGlobal, W: Sink>(
     rt: &T,
     writer: &mut W,
     notes: &mut Notes,
-    bench: &'a str,
+    name: &'a str,
     asked: Asked<'_>,
 ) -> Result<Status, Trouble<'a>> {
-    let mut held = load_bench(rt, bench)?;
-    answer_and_save(rt, writer, notes, bench, "", &mut held, asked)
+    let mut draft = lock_bench(rt, name)?;
+    let ended = move_locked(rt, writer, notes, &mut draft, name, asked);
+    end_draft(rt, draft);
+    ended
 }
 
-// Writes a reply, and tells how the call ends by it.
-fn write_answer<'a, W: Sink>(writer: &mut W, reply: Reply) -> Result<Status, Trouble<'a>>
+fn move_locked<'a, T: Files + AllocGlobal, W: Sink>(
+    rt: &T,
+    writer: &mut W,
+    notes: &mut Notes,
+    draft: &mut Draft<T::File>,
+    name: &'a str,
+    asked: Asked<'_>,
+) -> Result<Status, Trouble<'a>> {
+    let mut bench = ManuallyDrop::new(load_bench(rt, notes, name)?);
+    answer_and_save(rt, writer, notes, draft, name, "", &mut bench, asked)
+}
+
+// Looks at the bench of a file.
+fn look<'a, T: Files + AllocGlobal, W: Sink>(
+    rt: &T,
+    writer: &mut W,
+    notes: &mut Notes,
+    name: &'a str,
+    asked: Asked<'_>,
+) -> Result<Status, Trouble<'a>> {
+    let mut bench = ManuallyDrop::new(load_bench(rt, notes, name)?);
+    answer_look(rt.alloc(), writer, notes, &mut bench, asked)
+}
+
+// Writes a reply, and tells how the call ends by it. The named bench is saved before, where there is one.
+fn write_answer<'a, W: Sink>(
+    writer: &mut W,
+    reply: Reply,
+    saved: Option<&'a str>,
+) -> Result<Status, Trouble<'a>>
     ensures reply { OnOk result (Appends (W.contents writer.old) (W.contents writer.new) (reply.text.items ++ line_feed ∷ [])) }
     ensures ended { IfOk result (λ s. s ≡ status_for reply.is_accepted) }
 {
@@ -248,12 +295,41 @@ fn write_answer<'a, W: Sink>(writer: &mut W, reply: Reply) -> Result<Status, Tro
         is_accepted,
         ..
     } = reply;
-    write_reply(writer, text)?;
+    if write_reply(writer, text).is_err() {
+        return Err(unprinted(saved));
+    }
     if is_accepted {
         Ok(Status::Done)
     } else {
         Ok(Status::Refused)
     }
+}
+
+// The trouble of a reply that cannot be printed.
+fn unprinted(saved: Option<&str>) -> Trouble<'_> {
+    match saved {
+        Some(name) => Trouble::SavedUnprinted(name),
+        None => Trouble::CannotPrint,
+    }
+}
+
+// Answers a look, which changes nothing, and writes the reply.
+fn answer_look<'a, W: Sink>(
+    alloc: Global,
+    writer: &mut W,
+    notes: &mut Notes,
+    bench: &mut Bench,
+    asked: Asked<'_>,
+) -> Result<Status, Trouble<'a>>
+    ensures reply { OnOk result (Appends (W.contents writer.old) (W.contents writer.new)
+        ((asked_answer readings bench.old (asked_view asked.entry)).0 ++ line_feed ∷ [])) }
+    ensures ended { IfOk result (λ s. s ≡ status_for (is_asked_accepted bench.old (asked_view asked.entry))) }
+{
+    let reply = answer(alloc, bench, asked)?;
+    if !reply.is_accepted {
+        notes.about_command(alloc, bench, asked, "");
+    }
+    write_answer(writer, reply, None)
 }
 
 // Answers the subcommand, and writes the reply once the bench is saved where it has changed. The object is that of the
@@ -262,6 +338,7 @@ fn answer_and_save<'a, T: Files + AllocGlobal, W: Sink>(
     rt: &T,
     writer: &mut W,
     notes: &mut Notes,
+    draft: &mut Draft<T::File>,
     name: &'a str,
     file: &str,
     bench: &mut Bench,
@@ -273,37 +350,54 @@ fn answer_and_save<'a, T: Files + AllocGlobal, W: Sink>(
 {
     let reply = answer(rt.alloc(), bench, asked)?;
     if reply.is_change {
-        save_bench(rt, name, bench)?;
+        put_draft(rt, draft, name, bench)?;
+        return write_answer(writer, reply, Some(name));
     }
     if !reply.is_accepted {
         notes.about_command(rt.alloc(), bench, asked, file);
     }
-    write_answer(writer, reply)
+    write_answer(writer, reply, None)
 }
 
+// Holds a session on the bench of a file. Until it ends, no other call may save the bench.
 fn hold_session<'a, T: Files + AllocGlobal, R: Source, W: Sink>(
     rt: &T,
     reader: &mut R,
     writer: &mut W,
+    notes: &mut Notes,
     name: &'a str,
 ) -> Result<Status, Trouble<'a>> {
-    // (not dropped: the program ends with its session, and all memory with it; to give a history back piece by piece takes some
-    // four hundredths of a session)
-    let mut bench = ManuallyDrop::new(load_bench(rt, name)?);
-    hold_and_save(rt, reader, writer, name, &mut bench)
+    let mut draft = lock_bench(rt, name)?;
+    let ended = hold_locked(rt, reader, writer, notes, &mut draft, name);
+    end_draft(rt, draft);
+    ended
 }
 
-// Holds a session on the bench of a file, and saves it at the end of the input.
+// Holds a session on the bench of a file, whose draft is taken.
+fn hold_locked<'a, T: Files + AllocGlobal, R: Source, W: Sink>(
+    rt: &T,
+    reader: &mut R,
+    writer: &mut W,
+    notes: &mut Notes,
+    draft: &mut Draft<T::File>,
+    name: &'a str,
+) -> Result<Status, Trouble<'a>> {
+    let mut bench = ManuallyDrop::new(load_bench(rt, notes, name)?);
+    hold_and_save(rt, reader, writer, draft, name, &mut bench)
+}
+
+// Holds a session on a bench, and saves it at the end of the input.
 fn hold_and_save<'a, T: Files + AllocGlobal, R: Source, W: Sink>(
     rt: &T,
     reader: &mut R,
     writer: &mut W,
+    draft: &mut Draft<T::File>,
     name: &'a str,
     bench: &mut Bench,
 ) -> Result<Status, Trouble<'a>> {
     let Ok(()) = session(rt.alloc(), reader, writer, bench) else {
         return Err(Trouble::SessionBroken);
     };
-    save_bench(rt, name, bench)?;
+    put_draft(rt, draft, name, bench)?;
     Ok(Status::Done)
 }

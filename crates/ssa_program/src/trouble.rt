@@ -6,7 +6,7 @@ ghost use Rattle.ssa_model.specs.definitions.Replies.{fault_json};
 ghost use Rattle.ssa_model.specs.definitions.Session.{out_of_memory_text};
 ghost use Rattle.ssa_json.specs.Devices.{AppendsPart};
 ghost use Rattle.ssa_json.specs.FaultCodes.{code_view};
-ghost use Rattle.ssa_program.specs.Trouble.{EndsBy, Tells, escaped_byte, named_line};
+ghost use Rattle.ssa_program.specs.Trouble.{EndsBy, Tells, draft_line, escaped, escaped_byte, named_line};
 ghost use Rattle.ssa_program.specs.declared.trouble.Trouble.TheVariants.{CannotPrint, File, OutOfMemory};
 
 use crate::status::Status;
@@ -26,6 +26,17 @@ pub enum Trouble<'a> {
     CannotRead(&'a str),
     /// The bench's file cannot be written. It is as it was.
     CannotWrite(&'a str),
+    /// The bench's name leads to something that is no plain file.
+    NoPlainFile(&'a str),
+    /// The bench that is to be made would take the place of the schema or the object that it is made of.
+    OwnSource(&'a str),
+    /// The draft beside the bench's file is there: another call is at work, or one broke off.
+    DraftIsThere {
+        /// The draft's name.
+        draft: String,
+        /// The bench's name.
+        bench: &'a str,
+    },
     /// The bench's file is not taken.
     Load(LoadFault),
     /// A schema file or an object file is refused.
@@ -38,6 +49,8 @@ pub enum Trouble<'a> {
     SessionBroken,
     /// The reply cannot be printed.
     CannotPrint,
+    /// The bench's file is saved, but the reply cannot be printed.
+    SavedUnprinted(&'a str),
 }
 
 impl From<AllocError> for Trouble<'_> {
@@ -80,14 +93,39 @@ fn push_escaped(text: &mut Vec<u8>, byte: u8) -> Result<(), AllocError>
     Ok(())
 }
 
-/// What is told of a file, with its name. A name takes one line, whatever it is.
-pub fn named_line(alloc: Global, told: &str, name: &str) -> Result<Vec<u8>, AllocError>
-    ensures { IfOk result (λ text. text.items ≡ named_line told.now name.now) }
+// Appends a name. It takes one line, whatever it is.
+fn push_name(text: &mut Vec<u8>, name: &str) -> Result<(), AllocError>
+    ensures { OnOk result (text.new.items ≡ text.old.items ++ escaped name.now) }
 {
-    let mut text = told.as_bytes().to_vec(alloc)?;
     for byte in name.as_bytes() {
-        push_escaped(&mut text, *byte)?;
+        push_escaped(text, *byte)?;
     }
+    Ok(())
+}
+
+/// What is told of a file, with its name between.
+pub fn named_line(
+    alloc: Global,
+    before: &str,
+    name: &str,
+    after: &str,
+) -> Result<Vec<u8>, AllocError>
+    ensures { IfOk result (λ text. text.items ≡ named_line before.now name.now after.now) }
+{
+    let mut text = before.as_bytes().to_vec(alloc)?;
+    push_name(&mut text, name)?;
+    text.extend_from_slice(after.as_bytes())?;
+    Ok(text)
+}
+
+// What is told where the draft beside a bench's file is there.
+fn draft_line(alloc: Global, draft: &str, bench: &str) -> Result<Vec<u8>, AllocError>
+    ensures { IfOk result (λ text. text.items ≡ draft_line draft.now bench.now) }
+{
+    let between = " is there: another call is at work on ";
+    let mut text = named_line(alloc, "ssabench: ", draft, between)?;
+    push_name(&mut text, bench)?;
+    text.extend_from_slice(b", or one broke off; if none is, remove it")?;
     Ok(text)
 }
 
@@ -112,16 +150,35 @@ pub(crate) fn end_by_fault<W: Sink>(writer: &mut W, code: FaultCode) -> Status
 // Tells a person of a file by its name.
 fn end_by_name<W: Sink, E: Sink>(
     alloc: Global,
-    told: &str,
+    before: &str,
     name: &str,
+    after: &str,
     writer: &mut W,
     errors: &mut E,
 ) -> Status
-    ensures told { (AppendsPart (E.contents errors.old) (E.contents errors.new) (named_line told.now name.now ++ line_feed ∷ []) × (writer.new ≡ writer.old))
+    ensures told { (AppendsPart (E.contents errors.old) (E.contents errors.new) (named_line before.now name.now after.now ++ line_feed ∷ []) × (writer.new ≡ writer.old))
         ⊎ (AppendsPart (W.contents writer.old) (W.contents writer.new) (out_of_memory_text ++ line_feed ∷ []) × (errors.new ≡ errors.old)) }
     ensures status { result ≡ Status.Broken }
 {
-    match named_line(alloc, told, name) {
+    match named_line(alloc, before, name, after) {
+        Ok(line) => end_by(errors, &line),
+        Err(_) => end_by_fault(writer, FaultCode::OutOfMemory),
+    }
+}
+
+// Tells a person of the draft that is there.
+fn end_by_draft<W: Sink, E: Sink>(
+    alloc: Global,
+    draft: &str,
+    bench: &str,
+    writer: &mut W,
+    errors: &mut E,
+) -> Status
+    ensures told { (AppendsPart (E.contents errors.old) (E.contents errors.new) (draft_line draft.now bench.now ++ line_feed ∷ []) × (writer.new ≡ writer.old))
+        ⊎ (AppendsPart (W.contents writer.old) (W.contents writer.new) (out_of_memory_text ++ line_feed ∷ []) × (errors.new ≡ errors.old)) }
+    ensures status { result ≡ Status.Broken }
+{
+    match draft_line(alloc, draft, bench) {
         Ok(line) => end_by(errors, &line),
         Err(_) => end_by_fault(writer, FaultCode::OutOfMemory),
     }
@@ -142,10 +199,21 @@ pub fn tell_trouble<W: Sink, E: Sink>(
 {
     match trouble {
         Trouble::CannotRead(name) => {
-            end_by_name(alloc, "ssabench: cannot read ", name, writer, errors)
+            end_by_name(alloc, "ssabench: cannot read ", name, "", writer, errors)
         }
         Trouble::CannotWrite(name) => {
-            end_by_name(alloc, "ssabench: cannot write ", name, writer, errors)
+            end_by_name(alloc, "ssabench: cannot write ", name, "", writer, errors)
+        }
+        Trouble::NoPlainFile(name) => {
+            let told = " is no plain file";
+            end_by_name(alloc, "ssabench: ", name, told, writer, errors)
+        }
+        Trouble::OwnSource(name) => {
+            let told = " is the schema or the object itself";
+            end_by_name(alloc, "ssabench: ", name, told, writer, errors)
+        }
+        Trouble::DraftIsThere { draft, bench } => {
+            end_by_draft(alloc, draft.as_str(), bench, writer, errors)
         }
         Trouble::Load(fault) => end_by_fault(writer, fault.code()),
         Trouble::File(fault) => match tell(alloc, writer, fault) {
@@ -156,5 +224,9 @@ pub fn tell_trouble<W: Sink, E: Sink>(
         Trouble::OutOfMemory => end_by_fault(writer, FaultCode::OutOfMemory),
         Trouble::SessionBroken => end_by(errors, b"ssabench: session ended unsaved"),
         Trouble::CannotPrint => Status::Broken,
+        Trouble::SavedUnprinted(name) => {
+            let told = " is saved, but the reply cannot be printed";
+            end_by_name(alloc, "ssabench: ", name, told, writer, errors)
+        }
     }
 }

@@ -174,7 +174,10 @@ impl Seek for Opened {
 
 impl OpenFile for Opened {
     fn metadata(&self) -> io::Result<Metadata> {
-        Err(unsupported())
+        match self.bytes.try_borrow() {
+            Ok(held) => Ok(Metadata::of_file(held.len() as u64)),
+            Err(_) => Err(refused()),
+        }
     }
 
     fn set_len(&self, _size: u64) -> io::Result<()> {
@@ -205,7 +208,10 @@ impl Files for Memory {
 
     fn open_file(&self, how: &OpenOptions, path: &str) -> io::Result<Opened> {
         how.check()?;
-        let bytes = if how.asks_create() {
+        if how.asks_create_new() && self.has(path) {
+            return Err(io::Error::from(ErrorKind::AlreadyExists));
+        }
+        let bytes = if how.asks_create() || how.asks_create_new() {
             self.made(path)?
         } else {
             self.found(path)?
@@ -227,12 +233,13 @@ impl Files for Memory {
         Err(unsupported())
     }
 
-    fn metadata(&self, _path: &str) -> io::Result<Metadata> {
-        Err(unsupported())
+    fn metadata(&self, path: &str) -> io::Result<Metadata> {
+        Ok(Metadata::of_file(self.text(path)?.len() as u64))
     }
 
-    fn symlink_metadata(&self, _path: &str) -> io::Result<Metadata> {
-        Err(unsupported())
+    // (there are no links)
+    fn symlink_metadata(&self, path: &str) -> io::Result<Metadata> {
+        self.metadata(path)
     }
 
     fn copy(&self, _from: &str, _to: &str) -> io::Result<u64> {

@@ -179,7 +179,47 @@ fn a_file_cut_short_is_no_bench(rt: HostRuntime) -> Result<(), Fail> {
     for words in ["undo b", "session b"] {
         assert!(rt; prints(&memory, words, 3, refused)?, "words {words}");
     }
+    assert_eq!(rt;
+        run(&memory, "log b", "")?.told.as_slice(),
+        b"ssabench: b: line 4 is not as a bench file has it\n".as_slice()
+    );
     assert!(rt; !memory.has("b.new"));
+    Ok(())
+}
+
+#[test]
+fn a_draft_that_is_there_refuses_what_may_save(rt: HostRuntime) -> Result<(), Fail> {
+    let memory = applied(rt.alloc())?;
+    memory.put("b.new", "another's")?;
+    let told =
+        "ssabench: b.new is there: another call is at work on b, or one broke off; if none is, remove it\n";
+    for words in ["undo b", "redo b", "strip b", INIT, APPLY, "session b"] {
+        assert!(rt; tells(&memory, words, 3, told)?, "words {words}");
+    }
+    assert!(rt; holds(&memory, "b.new", "another's")?);
+    assert_eq!(rt; run(&memory, "log b", "")?.status, 0);
+    Ok(())
+}
+
+#[test]
+fn what_is_not_saved_leaves_no_draft(rt: HostRuntime) -> Result<(), Fail> {
+    let memory = applied(rt.alloc())?;
+    for words in ["redo b", "apply b schema.json --at 2024-05-01T10:00:01Z"] {
+        assert_eq!(rt; run(&memory, words, "")?.status, 1, "words {words}");
+        assert!(rt; is_applied(&memory)?, "words {words}");
+    }
+    Ok(())
+}
+
+#[test]
+fn a_bench_takes_the_place_of_neither_file_that_it_is_made_of(rt: HostRuntime) -> Result<(), Fail> {
+    let memory = files(rt.alloc())?;
+    for bench in ["schema.json", "bare.json"] {
+        let words = ["init schema.json bare.json ", bench].concat(rt.alloc())?;
+        let told = "ssabench: ";
+        assert!(rt; tells(&memory, words.as_str(), 3, told)?, "bench {bench}");
+    }
+    assert!(rt; holds(&memory, "schema.json", SCHEMA)?);
     Ok(())
 }
 
@@ -227,7 +267,7 @@ fn a_broken_session_is_not_saved(rt: HostRuntime) -> Result<(), Fail> {
 }
 
 #[test]
-fn a_reply_that_cannot_be_printed_is_told_by_the_status(rt: HostRuntime) -> Result<(), Fail> {
+fn a_reply_that_cannot_be_printed_after_a_save_is_told(rt: HostRuntime) -> Result<(), Fail> {
     let memory = applied(rt.alloc())?;
     let mut room = [0u8; 4];
     let mut writer = OfWriter::new(&mut room[..]);
@@ -236,7 +276,10 @@ fn a_reply_that_cannot_be_printed_is_told_by_the_status(rt: HostRuntime) -> Resu
     let call = Call::Undo { bench: "b" };
     let status = perform(&memory, &call, &mut reader, &mut writer, &mut errors);
     assert_eq!(rt; status, 3);
-    assert_eq!(rt; errors.into_inner().as_slice(), b"".as_slice());
+    assert_eq!(rt;
+        errors.into_inner().as_slice(),
+        b"ssabench: b is saved, but the reply cannot be printed\n".as_slice()
+    );
     assert!(rt; is_undone(&memory)?);
     Ok(())
 }

@@ -6,7 +6,7 @@ use Rattle.ssa_bench.specs.Loading.{Loads}
 use Rattle.ssa_bench.specs.Taking.{counts_view, held_counts}
 use Rattle.ssa_bench.proofs.LoadedParts.{fault-handed}
 use Rattle.ssa_bench.proofs.LoadedBench.{later-refused, loaded, part-refused, reached-none, reached-part}
-use Rattle.ssa_bench.proofs.bench.Bench.load.Goals as goal
+use Rattle.ssa_bench.proofs.bench.Bench.load_telling.Goals as goal
 
 pub returns-in_err-counts-clause-loaded : goal.returns-in_err-counts-clause-loaded
 returns-in_err-counts-clause-loaded g c =
