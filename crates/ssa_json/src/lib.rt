@@ -27,6 +27,7 @@ pub mod quotes;
 mod read;
 pub mod reader;
 pub mod reading_room;
+mod retrying;
 mod same;
 pub mod sink;
 pub mod source;

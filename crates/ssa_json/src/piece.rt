@@ -2,6 +2,7 @@
 ghost use Rattle.std.specs.Prelude.{◌≡◌, ℕ, ◌<◌, ◌≤◌, List, [], length, drop, OnOk, OnErr, IsTrue, ◌↔◌};
 ghost use Rattle.std.specs.Io.KnownBytes.{Keeps, Consumes, IsAtEnd};
 
+use crate::retrying::read_on;
 use std::io;
 use std::io::Read;
 use std::marker::Model;
@@ -70,7 +71,7 @@ impl Piece {
     {
         self.start = 0;
         self.end = 0;
-        self.end = reader.read(&mut self.bytes)?;
+        self.end = read_on(reader, &mut self.bytes)?;
         Ok(())
     }
 }

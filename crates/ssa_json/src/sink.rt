@@ -3,6 +3,7 @@ ghost use Rattle.std.specs.Prelude.{◌≡◌, ℕ, ◌<◌, ◌≤◌, List, le
 ghost use Rattle.std.specs.Io.KnownBytes.{Appends, Keeps, WriteAppends};
 ghost use Rattle.ssa_json.specs.Devices.{AppendsPart, is_fault};
 
+use crate::retrying::write_on;
 use crate::source::DeviceFault;
 use std::io::Write;
 
@@ -87,7 +88,7 @@ impl<W: Write> Sink for OfWriter<W> {
             return Err(DeviceFault);
         }
         self.is_handed_on = false;
-        match self.writer.write(bytes) {
+        match write_on(&mut self.writer, bytes) {
             Ok(n) if n > 0 || bytes.is_empty() => Ok(n),
             _ => {
                 self.has_failed = true;
