@@ -162,17 +162,6 @@ impl Timeline {
         Ok(Log { past, future })
     }
 
-    /// The label of the command that led to the place.
-    pub fn last_label(&self) -> &Label
-        requires { 0 < past_len self.now }
-        ensures { slice_get (map (λ s. s.label) self.now.later) (past_len self.now - 1) ≡ Some (label_view result.now) }
-    {
-        match self.journal.entry(self.journal.past_len() - 1) {
-            Some(entry) => entry.1,
-            None => unreachable!(),
-        }
-    }
-
     /// How much the n-th record holds, or `usize::MAX` where it is more: of those of the past first,
     /// oldest at 0, each leading back from the state after its command to the one before it, then of
     /// those of the future, each leading forward. Takes no memory.
