@@ -45,6 +45,7 @@ IsReadTrouble name _ = ⊥
 
 -- of looking where the bench's name leads to
 abbrev pub IsPlaceTrouble : Text → Trouble → Type 0
+IsPlaceTrouble name (CannotRead n) = n.now ≡ name
 IsPlaceTrouble name (NoPlainFile n) = n.now ≡ name
 IsPlaceTrouble name OutOfMemory = Unit {0}
 IsPlaceTrouble name _ = ⊥
