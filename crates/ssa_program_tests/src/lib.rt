@@ -11,5 +11,3 @@ mod note_tests;
 mod program;
 #[cfg(test)]
 mod program_tests;
-#[cfg(test)]
-mod word_tests;
