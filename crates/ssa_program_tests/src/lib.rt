@@ -6,8 +6,6 @@ mod front_tests;
 #[cfg(test)]
 mod memory;
 #[cfg(test)]
-mod note_tests;
-#[cfg(test)]
 mod program;
 #[cfg(test)]
 mod program_tests;
