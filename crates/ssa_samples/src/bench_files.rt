@@ -1,4 +1,4 @@
-//! Files of a bench of the sample schema, and how a bench is taken from its file and saved in it.
+//! The file of a bench of the sample schema, and how a bench is taken from its file and saved in it.
 
 use crate::sample::{IMAGE, web};
 use crate::sample_schema::SCHEMA;
