@@ -94,6 +94,11 @@ def fault(number, name):
     return b'{"fault":%d,"name":"%s"}\n' % (number, name.encode())
 
 
+def taken(name):
+    """What is told of a bench whose draft is there."""
+    return ('ssabench: %s.new is there: another call is at work on %s, or one broke off; if none is, remove it\n' % (name, name)).encode()
+
+
 def in_parallel(function, items, setup=None, given=(), chunk=16):
     """What a function gives for each item, in the items' order, on all processors."""
     with multiprocessing.get_context('fork').Pool(os.cpu_count(), setup, given) as pool:

@@ -1,11 +1,13 @@
-/* Refuses one call of the system, or ends the process there. The calls open, read, write, fsync, close, rename and unlink of
- * the program (and their like) are counted together, from 1. With REFUSE_AT=N in the environment the Nth call, and with
- * REFUSE_FROM=N each such call on the same from it on, meets what REFUSE_HOW says: the number of an error, with which the call is refused;
- * `killed` or `done_and_killed`, where the process is killed before or after the call; `nothing`, where a read or a write
- * answers that it moved no byte; `one`, where it moves one at most. With REFUSE_REPORT=FILE a line is added there for each
- * call: its name, what it gave, and what it is on, a path or a number of standard input, output or error. For use with
- * LD_PRELOAD. */
+/* Refuses one call of the system, holds it up, or ends the process there. The calls open, read, write, fsync, close, rename and
+ * unlink of the program (and their like), and those that look at a file or change whose it is (stat, resolve, chmod, chown), are
+ * counted together, from 1. With REFUSE_AT=N in the environment the Nth call, and with REFUSE_FROM=N each such call on the same
+ * from it on, meets what REFUSE_HOW says: the number of an error, with which the call is refused; `killed` or
+ * `done_and_killed`, where the process is killed before or after the call; `nothing`, where a read or a write answers that it
+ * moved no byte; `one`, where it moves one at most; `held`, where the process makes the file REFUSE_HELD and waits before the
+ * call until the file REFUSE_UNTIL is there. With REFUSE_REPORT=FILE a line is added there for each call: its name, what it
+ * gave, and what it is on, a path or a number of standard input, output or error. For use with LD_PRELOAD. */
 #define _GNU_SOURCE
+#include <dlfcn.h>
 #include <errno.h>
 #include <fcntl.h>
 #include <signal.h>
@@ -13,8 +15,10 @@
 #include <stdio.h>
 #include <stdlib.h>
 #include <string.h>
+#include <sys/stat.h>
 #include <sys/syscall.h>
 #include <sys/uio.h>
+#include <time.h>
 #include <unistd.h>
 
 enum { MOST = 1024 };
@@ -60,10 +64,20 @@ static int meets(const char *kind, const char *on) {
     return at > 0 && calls == at;
 }
 
+/* Waits until the awaited file is there, a minute at most. */
+static void hold(void) {
+    const char *held = getenv("REFUSE_HELD"), *until = getenv("REFUSE_UNTIL");
+    struct timespec moment = {0, 500000};
+    if (held) syscall(SYS_close, syscall(SYS_openat, AT_FDCWD, held, O_WRONLY | O_CREAT, 0600));
+    for (int n = 0; until && n < 120000 && syscall(SYS_faccessat, AT_FDCWD, until, F_OK) != 0; n++)
+        syscall(SYS_nanosleep, &moment, NULL);
+}
+
 /* Whether the call is refused instead of done. */
 static int refuses(int met) {
     if (!met) return 0;
     if (strcmp(how, "killed") == 0) end();
+    if (strcmp(how, "held") == 0) hold();
     if (how[0] < '0' || how[0] > '9') return 0;
     errno = atoi(how);
     return 1;
@@ -157,4 +171,49 @@ int unlink(const char *path) {
     int met = meets("unlink", path);
     if (refuses(met)) return -1;
     return ended(met, "unlink", path, syscall(SYS_unlinkat, AT_FDCWD, path, 0));
+}
+
+int statx(int dir, const char *restrict path, int flags, unsigned mask, struct statx *restrict out) {
+    const char *on = path[0] ? path : named(dir);
+    int met = meets("stat", on);
+    if (refuses(met)) return -1;
+    return ended(met, "stat", on, syscall(SYS_statx, dir, path, flags, mask, out));
+}
+
+char *realpath(const char *restrict path, char *restrict out) {
+    static char *(*resolve)(const char *, char *);
+    int met = meets("resolve", path);
+    if (refuses(met)) return NULL;
+    if (!resolve) *(void **)&resolve = dlsym(RTLD_NEXT, "realpath");
+    char *made = resolve(path, out);
+    ended(met, "resolve", path, made ? 0 : -1);
+    return made;
+}
+
+ssize_t readlink(const char *restrict path, char *restrict out, size_t n) {
+    int met = meets("resolve", path);
+    if (refuses(met)) return -1;
+    return ended(met, "resolve", path, syscall(SYS_readlinkat, AT_FDCWD, path, out, n));
+}
+
+static int on_path(const char *kind, const char *path, long call, long first, long second) {
+    int met = meets(kind, path);
+    if (refuses(met)) return -1;
+    return ended(met, kind, path, syscall(call, path, first, second));
+}
+
+int chmod(const char *path, mode_t mode) { return on_path("chmod", path, SYS_chmod, mode, 0); }
+int chown(const char *path, uid_t user, gid_t group) { return on_path("chown", path, SYS_chown, user, group); }
+int lchown(const char *path, uid_t user, gid_t group) { return on_path("chown", path, SYS_lchown, user, group); }
+
+int fchmod(int fd, mode_t mode) {
+    int met = meets("chmod", named(fd));
+    if (refuses(met)) return -1;
+    return ended(met, "chmod", named(fd), syscall(SYS_fchmod, fd, mode));
+}
+
+int fchown(int fd, uid_t user, gid_t group) {
+    int met = meets("chown", named(fd));
+    if (refuses(met)) return -1;
+    return ended(met, "chown", named(fd), syscall(SYS_fchown, fd, user, group));
 }

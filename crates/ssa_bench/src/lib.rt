@@ -27,6 +27,7 @@ pub mod command;
 pub mod fault;
 mod load;
 pub mod prepared;
+mod record_reading;
 mod taking;
 
 pub use bench::{Bench, MOST_PAST};

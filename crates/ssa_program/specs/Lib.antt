@@ -1,4 +1,5 @@
 pub mod Asked
+pub mod Names
 pub mod Status
 pub mod Trouble
 pub mod Usage

@@ -1,5 +1,5 @@
 -- The lines that tell why a call of the program does not come to its reply.
-use Rattle.std.specs.Prelude.{◌≡◌, ◌<◌, ℕ, length, ◌/◌, ◌%◌, [], ◌∷◌, ◌++◌, ◌||◌, ◌==◌, ◌⊎◌, Bool, if◌then◌else◌, nat_lt, flat_map, slice_index, codes, string_bytes}
+use Rattle.std.specs.Prelude.{◌≡◌, ◌<◌, length, [], ◌∷◌, ◌++◌, ◌⊎◌, codes, string_bytes}
 use Rattle.ssa_model.specs.definitions.Json.{Text, compact}
 use Rattle.ssa_model.specs.definitions.Limits.{most_bench_bytes}
 use Rattle.ssa_model.specs.definitions.Faults.{bench_too_long}
@@ -7,29 +7,11 @@ use Rattle.ssa_model.specs.definitions.Replies.{fault_json}
 use Rattle.ssa_model.specs.definitions.Session.{out_of_memory_text}
 use Rattle.ssa_file.specs.Loading.{load_code}
 use Rattle.ssa_session.specs.Files.{IsTold}
+use Rattle.ssa_program.specs.Names.{escaped, named_line}
 use Rattle.ssa_program.specs.declared.status.Status.{Status}
 use Rattle.ssa_program.specs.declared.status.Status.TheVariants.{Refused, Broken}
 use Rattle.ssa_program.specs.declared.trouble.Trouble.{Trouble}
 use Rattle.ssa_program.specs.declared.trouble.Trouble.TheVariants.{CannotRead, CannotWrite, NoPlainFile, OwnSource, DraftIsThere, Load, File, BenchTooLong, OutOfMemory, SessionBroken, CannotPrint, SavedUnprinted}
-
--- ---- names of files
-
-abbrev pub is_control : ℕ → Bool
-is_control b = nat_lt b 32 || (b == 127)
-
-abbrev pub hex_digit : ℕ → ℕ
-hex_digit n = slice_index (codes "0123456789abcdef") n
-
--- a control byte as `\xNN`, so that a name takes one line
-abbrev pub escaped_byte : ℕ → Text
-escaped_byte b = if is_control b then codes "\\x" ++ hex_digit (b / 16) ∷ hex_digit (b % 16) ∷ [] else b ∷ []
-
-abbrev pub escaped : Text → Text
-escaped name = flat_map escaped_byte name
-
--- what is told of the file of this name
-abbrev pub named_line : Text → Text → Text → Text
-named_line before name after = (before ++ escaped name) ++ after
 
 -- what is told where the draft beside the bench of this name is there
 abbrev pub draft_line : Text → Text → Text
@@ -63,6 +45,7 @@ IsReadTrouble name _ = ⊥
 
 -- of looking where the bench's name leads to
 abbrev pub IsPlaceTrouble : Text → Trouble → Type 0
+IsPlaceTrouble name (CannotRead n) = n.now ≡ name
 IsPlaceTrouble name (NoPlainFile n) = n.now ≡ name
 IsPlaceTrouble name OutOfMemory = Unit {0}
 IsPlaceTrouble name _ = ⊥

@@ -28,7 +28,8 @@ pub struct Place {
 }
 
 impl Place {
-    /// The file of this name, with links resolved. What is there and is no plain file is refused.
+    /// The file of this name, with links resolved. What is there and is no plain file is refused, and what cannot be
+    /// looked at.
     pub fn of<'a, T: Files + AllocGlobal>(rt: &T, name: &'a str) -> Result<Place, Trouble<'a>>
         ensures { IfErr result (IsPlaceTrouble name.now) }
     {
@@ -39,7 +40,8 @@ impl Place {
                 found: Some(found),
             }),
             Ok(_) => Err(Trouble::NoPlainFile(name)),
-            Err(_) => Ok(Place { path, found: None }),
+            Err(fault) if fault.kind() == ErrorKind::NotFound => Ok(Place { path, found: None }),
+            Err(_) => Err(Trouble::CannotRead(name)),
         }
     }
 
@@ -66,7 +68,8 @@ fn resolved<'a, T: Files + AllocGlobal>(rt: &T, name: &'a str) -> Result<String,
 {
     let is_link = match fs::symlink_metadata(rt, name) {
         Ok(found) => found.is_symlink(),
-        Err(_) => false,
+        Err(fault) if fault.kind() == ErrorKind::NotFound => false,
+        Err(_) => return Err(Trouble::CannotRead(name)),
     };
     if !is_link {
         return Ok(String::from_str(rt.alloc(), name)?);

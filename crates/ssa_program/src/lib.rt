@@ -20,6 +20,7 @@ pub mod answer;
 pub mod asked;
 pub mod draft;
 pub mod files;
+mod names;
 pub mod notes;
 pub mod perform;
 pub mod status;

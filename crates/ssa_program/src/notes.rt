@@ -1,7 +1,7 @@
 //! Where a refusal is: lines for people, beside its fault line.
 
 use crate::asked::{Asked, AskedFault, command_of};
-use crate::trouble::named_line;
+use crate::names::named_line;
 use ssa_bench::bench::Bench;
 use ssa_bench::fault::Fault;
 use ssa_explain::conflict::push_conflict;

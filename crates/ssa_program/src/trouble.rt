@@ -6,9 +6,11 @@ ghost use Rattle.ssa_model.specs.definitions.Replies.{fault_json};
 ghost use Rattle.ssa_model.specs.definitions.Session.{out_of_memory_text};
 ghost use Rattle.ssa_json.specs.Devices.{AppendsPart};
 ghost use Rattle.ssa_json.specs.FaultCodes.{code_view};
-ghost use Rattle.ssa_program.specs.Trouble.{EndsBy, Tells, draft_line, escaped, escaped_byte, named_line};
+ghost use Rattle.ssa_program.specs.Names.{named_line};
+ghost use Rattle.ssa_program.specs.Trouble.{EndsBy, Tells, draft_line};
 ghost use Rattle.ssa_program.specs.declared.trouble.Trouble.TheVariants.{CannotPrint, File, OutOfMemory};
 
+use crate::names::{named_line, push_name};
 use crate::status::Status;
 use ssa_file::loading::LoadFault;
 use ssa_json::fault_code::FaultCode;
@@ -75,47 +77,6 @@ impl From<FileFault> for Trouble<'_> {
     fn from(fault: FileFault) -> Self {
         Trouble::File(fault)
     }
-}
-
-const HEX_DIGITS: &[u8; 16] = b"0123456789abcdef";
-
-// Appends a byte of a name, a control byte as `\xNN`.
-fn push_escaped(text: &mut Vec<u8>, byte: u8) -> Result<(), AllocError>
-    ensures { OnOk result (text.new.items ≡ text.old.items ++ escaped_byte byte) }
-{
-    if byte >= 32 && byte != 127 {
-        text.push(byte)?;
-        return Ok(());
-    }
-    text.extend_from_slice(b"\\x")?;
-    text.push(HEX_DIGITS[usize::from(byte / 16)])?;
-    text.push(HEX_DIGITS[usize::from(byte % 16)])?;
-    Ok(())
-}
-
-// Appends a name. It takes one line, whatever it is.
-fn push_name(text: &mut Vec<u8>, name: &str) -> Result<(), AllocError>
-    ensures { OnOk result (text.new.items ≡ text.old.items ++ escaped name.now) }
-{
-    for byte in name.as_bytes() {
-        push_escaped(text, *byte)?;
-    }
-    Ok(())
-}
-
-/// What is told of a file, with its name between.
-pub fn named_line(
-    alloc: Global,
-    before: &str,
-    name: &str,
-    after: &str,
-) -> Result<Vec<u8>, AllocError>
-    ensures { IfOk result (λ text. text.items ≡ named_line before.now name.now after.now) }
-{
-    let mut text = before.as_bytes().to_vec(alloc)?;
-    push_name(&mut text, name)?;
-    text.extend_from_slice(after.as_bytes())?;
-    Ok(text)
 }
 
 // What is told where the draft beside a bench's file is there.

@@ -16,7 +16,9 @@
 
 pub mod label;
 mod label_read;
+pub mod reads_state;
 pub mod timeline;
 
 pub use label::Label;
+pub use reads_state::ReadsState;
 pub use timeline::{Log, Timeline};

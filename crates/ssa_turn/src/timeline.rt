@@ -6,11 +6,8 @@ ghost use Rattle.ssa_model.specs.definitions.History.{present, past_len, future_
 ghost use Rattle.ssa_model.specs.definitions.HistoryRecords.{kept_from, kept_size, kept_to};
 ghost use Rattle.ssa_model.specs.definitions.Record.{record_of};
 ghost use Rattle.ssa_model.specs.definitions.RecordedBench.{HasReadHistory};
-ghost use Rattle.ssa_model.specs.definitions.Valid.{IsValidState};
 ghost use Rattle.ssa_json.specs.Readings.{readings};
-ghost use Rattle.ssa_json.specs.View.{view};
 ghost use Rattle.ssa_merge.specs.States.{state_view};
-ghost use Rattle.ssa_record.specs.RecordAnswers.{IsAnswer};
 ghost use Rattle.ssa_reverse.specs.Journals.{future_of, past_of, timeline_of};
 ghost use Rattle.ssa_turn.specs.Dated.{MakesDated};
 ghost use Rattle.ssa_turn.specs.Histories.{in_a_row, label_view, lent_labels, preceded};
@@ -18,11 +15,9 @@ ghost use Rattle.ssa_turn.specs.TablesBack.{AllTablesBack, HasTableBack};
 ghost use Rattle.ssa_turn_state.specs.States.{HasStateRoom, IsTaken, state_steps};
 
 use crate::label::Label;
-use ssa_json::value::Json;
+use crate::reads_state::ReadsState;
 use ssa_merge::state::State;
-use ssa_record::read_record::{RecordAnswer, read_record};
 use ssa_reverse::journal::Journal;
-use ssa_schema::schema::Schema;
 use ssa_turn_state::live_state::{LiveState, StateDelta};
 use ssa_turn_state::own_paths::own_paths_are_read;
 use std::alloc::{AllocError, Global};
@@ -167,17 +162,6 @@ impl Timeline {
         Ok(Log { past, future })
     }
 
-    /// The label of the command that led to the place.
-    pub fn last_label(&self) -> &Label
-        requires { 0 < past_len self.now }
-        ensures { slice_get (map (λ s. s.label) self.now.later) (past_len self.now - 1) ≡ Some (label_view result.now) }
-    {
-        match self.journal.entry(self.journal.past_len() - 1) {
-            Some(entry) => entry.1,
-            None => unreachable!(),
-        }
-    }
-
     /// How much the n-th record holds, or `usize::MAX` where it is more: of those of the past first,
     /// oldest at 0, each leading back from the state after its command to the one before it, then of
     /// those of the future, each leading forward. Takes no memory.
@@ -239,22 +223,13 @@ impl Timeline {
         moved
     }
 
-    /// What a value is in the present state, where the state's record is wanted
-    /// (`ssa_record::read_record`).
-    ///
-    /// The history is as before: the live state goes to where the record leads, and back.
-    pub fn read_record(
-        &mut self,
-        alloc: Global,
-        schema: &Schema,
-        version: &str,
-        value: &Json,
-    ) -> Result<RecordAnswer, AllocError>
-        requires { IsValidState schema.now.kind (present self.old) }
+    /// Reads the live state where it stands. The history is as before.
+    pub fn read<R: ReadsState>(&mut self, reading: R) -> Result<R::Answer, AllocError>
+        requires { R.can_read reading (present self.old) }
         ensures same { self.new ≡ self.old }
-        ensures answer { IfOk result (λ r. IsAnswer schema.now.kind version.now (present self.old) (view value.now) r) }
+        ensures answer { IfOk result (λ a. R.reads reading (present self.old) a) }
     {
-        read_record(alloc, schema, version, &mut self.live.state, value)
+        reading.read(&mut self.live.state)
     }
 
     /// Goes one state back. Takes no memory.

@@ -13,6 +13,7 @@ ghost use Rattle.ssa_json.specs.View.{view};
 ghost use Rattle.ssa_bench.specs.Taking.{IsTaken, MovesBy, TellsMove};
 
 use super::Bench;
+use crate::record_reading::RecordReading;
 use crate::taking::{Step, answered_step, label_of, load_fault};
 use ssa_file::loading::{FileLine, LoadFault};
 use ssa_file::written::is_text_of;
@@ -71,9 +72,12 @@ impl Bench {
             return Err(LoadFault::BenchText);
         };
         let version = self.identity.version();
-        let answer = self
-            .timeline
-            .read_record(alloc, &self.schema, version, values.record)?;
+        let answer = self.timeline.read(RecordReading {
+            alloc,
+            schema: &self.schema,
+            version,
+            value: values.record,
+        })?;
         answered_step(label, answer)
     }
 

@@ -25,8 +25,8 @@ returns-in_default-2-clause-told c =
     shapeless-told c.args.self.now v c.recorded_moves.ensures.shapeless c.is_valid.ensures c.paths_are_read.ensures
     (no-label c.in-Some.values v line (sym c.in_ok-label.ensures ∙ ap (option_map label_view) c.in_default-2.is))
 
-pub read_record-requires : goal.read_record-requires
-read_record-requires c = present_valid c.self.inside.schema.kind c.self.inside.timeline c.self.invariant.states
+pub read-requires : goal.read-requires
+read-requires c = present_valid c.self.inside.schema.kind c.self.inside.timeline c.self.invariant.states
 
 pub returns-clause-told : goal.returns-clause-told
 returns-clause-told c =
