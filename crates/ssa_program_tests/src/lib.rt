@@ -1,15 +1,5 @@
-//! Tests of the program: its words, its files, what it prints and tells, and its statuses.
+//! Tests of the first pages of the program's crates. What the program does is told by the stories of `tools/story_data`.
 #![tactic(auto)]
 
 #[cfg(test)]
 mod front_tests;
-#[cfg(test)]
-mod memory;
-#[cfg(test)]
-mod note_tests;
-#[cfg(test)]
-mod program;
-#[cfg(test)]
-mod program_tests;
-#[cfg(test)]
-mod word_tests;

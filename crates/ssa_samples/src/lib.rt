@@ -1,5 +1,5 @@
-//! What more than one of the tests of benches, sessions and the program needs: an object of a sample schema,
-//! its bench and files of it, a source that fails, and a sink that tells when it is flushed.
+//! What the tests of benches and those of sessions both need: an object of a sample schema, its bench and a file of it, a
+//! source that fails, and a sink that tells when it is flushed.
 #![tactic(auto)]
 
 pub mod bench_files;

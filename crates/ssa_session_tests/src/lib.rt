@@ -1,5 +1,5 @@
-//! Tests of sessions, of those on a bench that was loaded, and of the files of schemas and objects that they
-//! are held on: of what no contract says.
+//! Tests of sessions over devices that falter, of when a reply is flushed, and of the calls that the program does not make.
+//! Plain sessions, and those at limits, are stories of `examples` and `tools/story_data`.
 #![tactic(auto)]
 
 #[cfg(test)]
@@ -7,18 +7,6 @@ mod falters;
 #[cfg(test)]
 mod file_tests;
 #[cfg(test)]
-mod forcing_tests;
-#[cfg(test)]
 mod front_tests;
 #[cfg(test)]
-mod limit_tests;
-#[cfg(test)]
-mod lines;
-#[cfg(test)]
-mod loaded_bench_tests;
-#[cfg(test)]
-mod object_file_tests;
-#[cfg(test)]
 mod session_tests;
-#[cfg(test)]
-mod story;
