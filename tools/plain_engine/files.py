@@ -49,10 +49,9 @@ def is_label(said):
     try:
         if said == {'do': 'strip'}:
             return True
-        forced = {'force'} if said['do'] == 'apply' and isinstance(said['force'], bool) else set()
-        named(said['manager'])
-        moment(said['at'])
-        return said['do'] in ('apply', 'update') and said.keys() == {'at', 'do', 'manager'} | forced and (said['do'] == 'update' or bool(forced))
+        members = {'apply': {'at', 'do', 'force', 'manager'}, 'update': {'at', 'do', 'manager'}}[said['do']]
+        is_well = isinstance(said['manager'], str) and isinstance(said.get('force', True), bool) and said.keys() == members
+        return is_well and bool(named(said['manager']) and moment(said['at']))
     except (Fault, LookupError, TypeError):
         return False
 

@@ -83,9 +83,10 @@ def main(given):
     for job, steps, found in differing:
         with scratch() as folder:
             print(told(job, *Shrinker(Program(call.program, folder)).shrink(steps, found)))
+    # With one kind of stories alone it isn't asked.
     missing = [] if call.only else whole.missing(ALL) + ['%s in seed %s' % (it, seed) for seed in tallies for it in tallies[seed].missing(GREAT)]
     if missing and not differing:
         print('not met: ' + ', '.join(missing))
     print('%d seeds, %d kinds of things, %s, differences: %d, seconds: %d' % (
-        len(tallies), len(ALL), 'not all met' if missing else 'all met', len(differing), time.monotonic() - begun))
+        len(tallies), len(ALL), 'not asked whether all were met' if call.only else 'not all met' if missing else 'all met', len(differing), time.monotonic() - begun))
     return 1 if missing or differing else 0

@@ -61,35 +61,52 @@ class Shrinker:
             number = max(1, number // 2)
 
     def smaller(self, steps):
-        """With less in the values of its steps."""
+        """With less in the values of its steps, and fewer lines in its files."""
         for place, step in enumerate(steps):
             for part, inside in enumerate(step):
-                if isinstance(inside, bytes) and step[0] != 'file':
-                    def with_part(given):
-                        return [*steps[:place], (*step[:part], given, *step[part + 1:]), *steps[place + 1:]]
-                    less = self.smaller_text(inside, with_part)
-                    steps = with_part(less)
-                    step = steps[place]
+                if step[0] == 'file':
+                    steps = self.smaller_file(steps, place)
+                elif isinstance(inside, bytes):
+                    steps = self.smaller_text(steps, place, part)
         return steps
 
-    def smaller_text(self, given, with_part):
-        """A JSON text with fewer members and items, as long as the story with it differs."""
-        try:
-            value = json.loads(given)
-        except ValueError:
-            return given
-        if self.differs(with_part(text(value).encode())):
-            given = text(value).encode()
-        at = 0
+    def smaller_file(self, steps, place):
+        """With a bench's file that has fewer commands, as long as the story with it differs."""
         while True:
-            ways = [way for way in places(value) if way]
-            if at >= len(ways):
-                return given
+            first, *lines = steps[place][1].split(b'\n')
+            try:
+                counts = json.loads(first)
+                name = 'future' if counts['future'] else 'past'
+                counts[name] -= 1
+            except (ValueError, LookupError, TypeError):
+                return steps
+            less = b'\n'.join([text(counts).encode(), *lines[:-2], b''])
+            if len(lines) < 4 or not self.differs(with_part(steps, place, 1, less)):
+                return steps
+            steps = with_part(steps, place, 1, less)
+
+    def smaller_text(self, steps, place, part):
+        """With fewer members and items in a JSON text, as long as the story with it differs."""
+        try:
+            value = json.loads(steps[place][part])
+        except ValueError:
+            return steps
+        compact, at = with_part(steps, place, part, text(value).encode()), 1
+        steps = compact if self.differs(compact) else steps
+        while at < len(ways := list(places(value))):
             less = without(value, ways[at])
-            if self.differs(with_part(text(less).encode())):
-                value, given = less, text(less).encode()
+            tried = with_part(steps, place, part, text(less).encode())
+            if self.differs(tried):
+                steps, value = tried, less
             else:
                 at += 1
+        return steps
+
+
+def with_part(steps, place, part, given):
+    """The story with other bytes in a part of a step."""
+    step = steps[place]
+    return [*steps[:place], (*step[:part], given, *step[part + 1:]), *steps[place + 1:]]
 
 
 def without(value, way):
