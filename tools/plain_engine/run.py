@@ -4,9 +4,9 @@ import argparse, multiprocessing, os, sys, tempfile, time
 from .program import Program
 from .shrink import Shrinker, told
 from .stories import drawn, jobs
-from .tally import ALL, GREAT, GROUPS, Tally
+from .tally import ALL, OF_EACH_SEED, GROUPS, Tally
 
-MOST_TOLD = 3
+MOST_TOLD, MOST_TRIES = 3, 1_500
 here = {}
 
 
@@ -82,11 +82,14 @@ def main(given):
         print('%s: %s' % (name, ', '.join('%s %d' % (kind, whole.counts.get(kind, 0)) for kind in kinds)))
     for job, steps, found in differing:
         with scratch() as folder:
-            print(told(job, *Shrinker(Program(call.program, folder)).shrink(steps, found)))
-    # With one kind of stories alone it isn't asked.
-    missing = [] if call.only else whole.missing(ALL) + ['%s in seed %s' % (it, seed) for seed in tallies for it in tallies[seed].missing(GREAT)]
+            print(told(job, *Shrinker(Program(call.program, folder), MOST_TRIES).shrink(steps, found)))
+    missing = whole.missing(ALL) + ['%s in seed %s' % (it, seed) for seed in tallies for it in tallies[seed].missing(OF_EACH_SEED)]
+    if call.only:
+        missing, met = [], 'not asked whether all were met'
+    else:
+        met = 'not all met' if missing else 'all met'
     if missing and not differing:
         print('not met: ' + ', '.join(missing))
     print('%d seeds, %d kinds of things, %s, differences: %d, seconds: %d' % (
-        len(tallies), len(ALL), 'not asked whether all were met' if call.only else 'not all met' if missing else 'all met', len(differing), time.monotonic() - begun))
+        len(tallies), len(ALL), met, len(differing), time.monotonic() - begun))
     return 1 if missing or differing else 0

@@ -8,7 +8,7 @@ from .values import text
 
 
 class Shrinker:
-    def __init__(self, program, tries=1_500):
+    def __init__(self, program, tries):
         self.program, self.tries = program, tries
 
     def differs(self, steps):

@@ -24,11 +24,11 @@ ORDERS = ('configured in another order', 'inside an item in another order', 'som
           'new ones among others in another order', 'updated in another order', 'a map list in another order')
 CALLS = ('init', 'session', *(word + ' by words' for word in ('apply', 'update', 'strip', 'undo', 'redo', 'show', 'owners', 'log')),
          'file', 'a changed file is taken', 'status 0', 'status 1', 'status 3', 'files compared', 'history of 1,000')
-# In each seed's great story, as in all stories together.
-GREAT = (*COMMANDS, 'accepted', 'Conflict', 'undone', 'redone', 'NothingToUndo', 'NothingToRedo', 'TooManyManagers', 'HistoryFull',
+# What the stories of each seed have to meet, and what all stories together.
+OF_EACH_SEED = (*COMMANDS, 'accepted', 'Conflict', 'undone', 'redone', 'NothingToUndo', 'NothingToRedo', 'TooManyManagers', 'HistoryFull',
          'places', 'entries', 'owned paths', *LOOKS, *RECORD, *BODY, *DONE, *ORDERS,
          *('%s: %s' % (deed, it) for deed in DEEDS for it in (*FIELDS, *('a name of %d' % length for length in LENGTHS))))
-ALL = tuple(dict.fromkeys((*GREAT, *REFUSALS, *CALLS)))
+ALL = tuple(dict.fromkeys((*OF_EACH_SEED, *REFUSALS, *CALLS)))
 GROUPS = {'commands': (*COMMANDS, *LOOKS), 'answers': ('accepted', 'undone', 'redone', *REFUSALS), 'states': ('places', 'entries', 'owned paths'),
           'bodies and tables': BODY, 'what commands did': DONE, 'orders': ORDERS, 'records': RECORD, 'calls': CALLS}
 FIRST = (*COMMANDS, 'accepted', 'undone', 'redone', 'Conflict', 'TooManyManagers', 'HistoryFull', 'NothingToUndo', 'NothingToRedo',
