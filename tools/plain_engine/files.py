@@ -1,0 +1,125 @@
+"""Bench files: the text of a bench, and the bench or the first fault of a text. Each format is one entry of FORMATS."""
+from typing import NamedTuple
+
+from .benches import DEPTH, Bench, read_state, shown
+from .records import carried, has_shape, record
+from .schemas import read_schema
+from .tables import named
+from .values import Fault, is_whole, moment, read, text
+
+MOST_BYTES = 67_108_864
+WRITTEN = 2
+
+
+class Format(NamedTuple):
+    """How a format is written and read: its first line, and what stands behind the schema."""
+    head: object
+    is_head: object
+    lines: object
+    read: object
+
+
+def head(bench):
+    return {'format': 2, 'future': bench.future(), 'past': bench.past()}
+
+
+def is_head(said):
+    return (said.keys() == {'format', 'future', 'past'} and is_whole(said['future']) and is_whole(said['past'])
+            and min(said['future'], said['past']) >= 0 and said['future'] + said['past'] <= DEPTH)
+
+
+def recorded(bench):
+    """The present object, and the record of each command, back along the past and then on along the future."""
+    lines = [shown(bench.identity, bench.state(), True)]
+    back = [(place, place - 1) for place in range(bench.place, 0, -1)]
+    on = [(place, place + 1) for place in range(bench.place, len(bench.labels))]
+    for here, there in back + on:
+        made = record(bench.states[here], bench.states[there], bench.identity[0])
+        lines.append({'command': bench.labels[min(here, there)], 'record': made})
+    return lines
+
+
+def file_text(bench, number=WRITTEN):
+    """The text of a bench."""
+    form = FORMATS[number]
+    return ''.join(text(line) + '\n' for line in [form.head(bench), bench.schema, *form.lines(bench)]).encode()
+
+
+def is_label(said):
+    try:
+        if said == {'do': 'strip'}:
+            return True
+        members = {'apply': {'at', 'do', 'force', 'manager'}, 'update': {'at', 'do', 'manager'}}[said['do']]
+        is_well = isinstance(said['manager'], str) and isinstance(said.get('force', True), bool) and said.keys() == members
+        return is_well and bool(named(said['manager']) and moment(said['at']))
+    except (Fault, LookupError, TypeError):
+        return False
+
+
+class Lines:
+    """The values of the lines of a text, one after the other."""
+
+    def __init__(self, given):
+        self.rest = given
+
+    def next(self):
+        line, feed, self.rest = self.rest.partition(b'\n')
+        try:
+            value = read(line, MOST_BYTES)
+        except Fault:
+            raise Fault(70) from None
+        if not feed or text(value).encode() != line:
+            raise Fault(70)
+        return value
+
+
+def as_70(function, *given):
+    try:
+        return function(*given)
+    except Fault:
+        raise Fault(70) from None
+
+
+def that(holds):
+    if not holds:
+        raise Fault(70)
+
+
+def read_file(given):
+    """The bench whose text this is, or the first fault of its first faulty line."""
+    lines = Lines(given)
+    first = lines.next()
+    that(isinstance(first, dict) and is_whole(first.get('format')) and first['format'] in FORMATS)
+    form = FORMATS[first['format']]
+    that(form.is_head(first))
+    schema = lines.next()
+    bench = form.read(lines, first, schema, as_70(read_schema, schema))
+    that(not lines.rest)
+    return bench
+
+
+def read_recorded(lines, first, schema, kind):
+    told = lines.next()
+    identity, state = as_70(read_state, kind, told)
+    that(text(shown(identity, state, True)) == text(told))
+    past, future = read_way(lines, first['past'], state, kind, identity), read_way(lines, first['future'], state, kind, identity)
+    bench = Bench(schema, kind, identity, state)
+    bench.states = [it for it, _ in reversed(past)] + [state] + [it for it, _ in future]
+    bench.labels = [label for _, label in reversed(past)] + [label for _, label in future]
+    bench.place = len(past)
+    return bench
+
+
+def read_way(lines, number, state, kind, identity):
+    """The states to which so many lines lead, each with its label."""
+    found = []
+    for _ in range(number):
+        line = lines.next()
+        that(isinstance(line, dict) and line.keys() == {'command', 'record'} and is_label(line['command']) and has_shape(line['record']))
+        state = carried(line['record'], state, kind, identity[0])
+        found.append((state, line['command']))
+    return found
+
+
+# Each format that is read, by its number.
+FORMATS = {2: Format(head, is_head, recorded, read_recorded)}

@@ -1,0 +1,175 @@
+"""Wrong rules, each in place of one of the plain engine's: what a wrong program would do, told from the other side.
+
+`tools/plain_tests` puts each in its place, one at a time, and looks whether the comparison with the program finds it.
+"""
+from . import benches, bodies, files, operations, paths, records, tables
+
+over, compare, points, seat, clashes = bodies.over, bodies.compare, bodies.points, tables.seat, operations.clashes
+change, keep, move, read_fields, carried = benches.Bench.change, benches.Bench.keep, benches.Bench.move, paths.read_fields_v1, records.carried
+
+
+def configuration_first(live, configured):
+    return configured + tuple(element for element in live if element not in configured)
+
+
+def live_order_turned(live, configured):
+    """As if the order of the configuration led for the items of both."""
+    common = iter([element for element in configured if element in live])
+    return tuple(next(common) if element in configured else element for element in live) + tuple(
+        element for element in configured if element not in live)
+
+
+def shared_paths_dropped(table, act, config):
+    return {path for path in operations.owned_by(table, act.key) if path not in config and not paths.is_key_field(path)}
+
+
+def key_fields_dropped(table, act, config):
+    held = set().union(*map(paths.beginnings, tables.others(table, act.key)))
+    return {path for path in operations.owned_by(table, act.key) if path not in config and path not in held}
+
+
+def branches_below_others_dropped(table, act, config):
+    """As if only the paths of others were kept, and not those above them."""
+    return {path for path in operations.owned_by(table, act.key)
+            if path not in config and not paths.is_key_field(path) and path not in tables.others(table, act.key)}
+
+
+def first_conflict_only(state, act, modified):
+    return clashes(state, act, modified)[:1]
+
+
+def clashes_of_equal_values(state, act, modified):
+    return [(row.key, row.owned) for row in state.table if row.key != act.key and row.owned & modified]
+
+
+def whole_sets_taken(table, key, owned, lost, modified, at):
+    table = [row if row.key == key or not row.owned & lost else row._replace(owned=frozenset()) for row in table]
+    return seat(table, key, owned, lost, modified, at)
+
+
+def removed_paths_stay_owned(table, key, owned, lost, modified, at):
+    return seat(table, key, owned, modified, modified, at)
+
+
+def moments_of_others_renewed(table, key, owned, lost, modified, at):
+    made = seat(table, key, owned, lost, modified, at)
+    old = {row.key: row for row in table}
+    return [row._replace(at=at) if row.key in old and row.owned != old[row.key].owned else row for row in made]
+
+
+def moment_always_renewed(table, key, owned, lost, modified, at):
+    return [row._replace(at=at) if row.key == key else row for row in seat(table, key, owned, lost, modified, at)]
+
+
+def newcomer_first(table, key, owned, lost, modified, at):
+    made = seat(table, key, owned, lost, modified, at)
+    return made if any(row.key == key for row in table) else made[-1:] + made[:-1]
+
+
+def one_manager_more(body, table):
+    if len(table) > 65:
+        raise tables.Fault(43)
+    return operations.State(body, table)
+
+
+def empty_branches_no_points(body):
+    return {path for path in points(body) if bodies.is_leaf(body[path]) or paths.is_item(path[-1]) or body[path[:-1]] is bodies.DICT}
+
+
+def key_fields_no_points(body):
+    return {path for path in points(body) if not paths.is_key_field(path)}
+
+
+def order_is_modified(before, after):
+    added, modified, removed = compare(before, after)
+    turned = {path for path in before.keys() & after.keys() if isinstance(before[path], tuple) and before[path] != after[path]}
+    return added, modified | turned, removed
+
+
+def future_cleared_by_refusal(bench, command):
+    try:
+        return change(bench, command)
+    except benches.Fault:
+        del bench.states[bench.place + 1:], bench.labels[bench.place:]
+        raise
+
+
+def future_kept(bench, state, label):
+    bench.states.insert(bench.place + 1, state)
+    bench.labels.insert(bench.place, label)
+    bench.place += 1
+
+
+def no_change_not_kept(bench, state, label):
+    if state != bench.state():
+        keep(bench, state, label)
+
+
+def removed_items_at_the_end(bench, word):
+    """Undo that puts an item back behind the others."""
+    left = bench.state().body
+    said = move(bench, word)
+    if word == 'undo':
+        body, table = bench.state()
+        orders = {path: tuple(sorted(there, key=lambda it: path in left and path + (it,) not in left))
+                  for path, there in body.items() if isinstance(there, tuple)}
+        bench.states[bench.place] = operations.State({**body, **orders}, table)
+    return said
+
+
+def emptied_managers_last(bench, word):
+    left = {row.key for row in bench.state().table}
+    said = move(bench, word)
+    if word == 'undo':
+        body, table = bench.state()
+        bench.states[bench.place] = operations.State(body, sorted(table, key=lambda row: row.key not in left))
+    return said
+
+
+def not_canonical_read(value, at=()):
+    if isinstance(value, dict):
+        value = {name: {} if inside == {'.': {}} and name != '.' else inside for name, inside in value.items()}
+    return read_fields(value, at)
+
+
+def second_spelling_read(lines):
+    line, feed, lines.rest = lines.rest.partition(b'\n')
+    try:
+        return files.read(line, files.MOST_BYTES)
+    except files.Fault:
+        raise files.Fault(70) from None
+
+
+def records_not_compared(told, before, kind, version):
+    try:
+        after = operations.State(records.carried_body(told, before.body, kind), records.carried_table(told, before.table))
+        if records.is_valid(after, kind):
+            return after
+    except (records.Fault, LookupError, TypeError, ValueError):
+        pass
+    raise records.Fault(71)
+
+
+def orders_not_recorded(order, after):
+    return False
+
+
+def all_changed_paths_cut(first, second):
+    """A record that tells each path that goes, and not only the topmost."""
+    return sorted(path for path in first if path not in second)
+
+
+# By its name: where it belongs (a module or class, and what it takes the place of), and the wrong rule.
+WRONG = {it[2].__name__: it for it in (
+    (bodies, 'merged_order', configuration_first), (bodies, 'merged_order', live_order_turned),
+    (operations, 'dropped', shared_paths_dropped), (operations, 'dropped', key_fields_dropped),
+    (operations, 'dropped', branches_below_others_dropped),
+    (operations, 'clashes', first_conflict_only), (operations, 'clashes', clashes_of_equal_values),
+    (operations, 'seat', whole_sets_taken), (operations, 'seat', removed_paths_stay_owned), (operations, 'seat', moments_of_others_renewed),
+    (operations, 'seat', moment_always_renewed), (operations, 'seat', newcomer_first), (operations, 'with_table', one_manager_more),
+    (operations, 'points', empty_branches_no_points), (operations, 'points', key_fields_no_points),
+    (operations, 'compare', order_is_modified),
+    (benches.Bench, 'change', future_cleared_by_refusal), (benches.Bench, 'keep', future_kept), (benches.Bench, 'keep', no_change_not_kept),
+    (benches.Bench, 'move', removed_items_at_the_end), (benches.Bench, 'move', emptied_managers_last),
+    (tables, 'read_fields_v1', not_canonical_read), (files.Lines, 'next', second_spelling_read), (files, 'carried', records_not_compared),
+    (records, 'is_reordered', orders_not_recorded), (records, 'alone', all_changed_paths_cut))}
