@@ -15,7 +15,7 @@ pub trait ReadsState {
     ghost can_read: { Self → model.State → Type 0 };
 
     // This is what is read of it.
-    ghost reads: { Self → model.State → Answer → Type 0 };
+    ghost reads: { Self → model.State → Self.Answer → Type 0 };
 
     /// Reads the state, and leaves it as it was. Want of memory may end the reading.
     fn read(self, state: &mut State) -> Result<Self::Answer, AllocError>
