@@ -1,4 +1,4 @@
-use Rattle.std.proofs.Common.{◌∙◌, ap, true, false, subst}
+use Rattle.std.proofs.Common.{◌∙◌, ap, false, subst}
 use Rattle.std.specs.Prelude.{codes}
 use Rattle.ssa_model.specs.definitions.Entries.{text_json}
 use Rattle.ssa_json.specs.Writable.{IsOfProgram}
