@@ -8,6 +8,7 @@ use Rattle.ssa_model.specs.definitions.Valid.{has_distinct_keys, IsRooted, Keeps
 use Rattle.ssa_typed.specs.Alike.{AreAlike}
 use Rattle.ssa_typed.specs.Applied.{MayGo, applied}
 use Rattle.ssa_typed.specs.Differences.{IsComparison}
+use Rattle.ssa_typed.specs.KeepsOrder.{KeepsItemOrder}
 use Rattle.ssa_merge.specs.Managers.{clashes_view}
 use Rattle.ssa_merge.specs.States.{state_view}
 use Rattle.ssa_merge.specs.TableChanges.{changed_table, LeadsTo}
@@ -51,9 +52,10 @@ body_after Same gone b = b
 body_after (Whole c) gone b = c
 body_after (Over c) gone b = applied b c gone
 
--- where a configuration is put over the body, the two are alike, only what it leaves goes, and a rooted body stays
+-- where a configuration is put over the body, the two are alike, only what it leaves goes, a rooted body stays, and the items of both
+-- stand in one order
 abbrev pub CanStand : NewBody → PathSet → Body → Type 0
-CanStand (Over c) gone b = AreAlike b c × MayGo b c gone × IsRooted (applied b c gone)
+CanStand (Over c) gone b = AreAlike b c × MayGo b c gone × IsRooted (applied b c gone) × KeepsItemOrder b c
 CanStand Same gone b = Unit {0}
 CanStand (Whole c) gone b = Unit {0}
 

@@ -9,6 +9,7 @@ ghost use Rattle.ssa_model.specs.definitions.Valid.{AllEntries, IsRooted, OwnsOw
 ghost use Rattle.ssa_typed.specs.Alike.{AreAlike};
 ghost use Rattle.ssa_typed.specs.Applied.{MayGo, applied};
 ghost use Rattle.ssa_typed.specs.Differences.{IsComparison, IsPartComparison};
+ghost use Rattle.ssa_typed.specs.KeepsOrder.{KeepsItemOrder};
 ghost use Rattle.ssa_merge.specs.Managers.{key_view};
 ghost use Rattle.ssa_merge.specs.Plans.{body_after, CanStand, HasRoom};
 ghost use Rattle.ssa_merge.specs.States.{state_view};
@@ -97,12 +98,14 @@ fn has_room(live: &Body, config: &Body, added_points: &FieldSet, config_points: 
 }
 
 // The body after an Apply by which the live body loses these places. The configuration is put over the live body only
-// where that could have too many places, so that they are counted.
+// where that could have too many places, so that they are counted, and where it has some items in another order, which are
+// then exchanged by what the whole body after tells.
 fn applied_body(
     alloc: Global,
     state: &State,
     key: &ManagerKey,
     config: Body,
+    in_order: bool,
     config_points: &FieldSet,
     added_points: &FieldSet,
     gone: &FieldSet,
@@ -110,6 +113,7 @@ fn applied_body(
     requires alike { AreAlike state.now.body config }
     requires points { config_points.now ≡ points config }
     requires added { added_points.now ≡ added state.now.body config }
+    requires order { in_order ≡ true → KeepsItemOrder state.now.body config }
     requires owned { AllEntries (OwnsOwnable state.now.body) state.now.managers }
     requires gone { gone.now ≡ removed state.now.body (pruned (state_view state.now) (key_view key.now) config) }
     ensures body { IfOk result (λ b. body_after b gone.now state.now.body ≡ pruned (state_view state.now) (key_view key.now) config) }
@@ -122,7 +126,7 @@ fn applied_body(
     config.parts_are_of_places();
     state.body.stands_rooted();
     config.stands_rooted();
-    if has_room(&state.body, &config, added_points, config_points) {
+    if in_order && has_room(&state.body, &config, added_points, config_points) {
         return Ok(NewBody::Over(config));
     }
     let body = laid_over(alloc, &state.body, config, gone)?;
@@ -138,7 +142,7 @@ pub struct BodyChange {
 
 /// What an Apply of a configuration makes of the body, where it is told how the configuration differs from the live body.
 /// Where `keeps` tells that the manager owns the points of the configuration already, it gives up nothing. A
-/// configuration that repeats what is there, and by which nothing goes, is let go.
+/// configuration that repeats what is there, its items in the order in which they stand, and by which nothing goes, is let go.
 pub fn body_change(
     alloc: Global,
     state: &State,
@@ -161,7 +165,8 @@ pub fn body_change(
     let gone = given_up(alloc, state, key, &config, config_points, keeps)?;
     state.body.points_tell_places();
     config.points_tell_places();
-    if gone.is_empty() && told.repeats {
+    let in_order = state.body.keeps_order(alloc, &config)?;
+    if in_order && gone.is_empty() && told.repeats {
         state.body.points_keep_all();
         let comparison = Comparison::of_same(alloc);
         return Ok(BodyChange {
@@ -175,6 +180,7 @@ pub fn body_change(
         state,
         key,
         config,
+        in_order,
         config_points,
         &told.added,
         &removed,

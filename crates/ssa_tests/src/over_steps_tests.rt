@@ -262,8 +262,7 @@ fn what_comes_where_something_goes_is_told(rt: HostRuntime) -> Result<(), Fail> 
     Ok(())
 }
 
-// All that is there; by force, what m2 owns too, with items in another order; what m1 did not own; and less than m1 owned, where
-// m2 owns the rest too.
+// All that is there; by force, what m2 owns too; what m1 did not own; and less than m1 owned, where m2 owns the rest too.
 const REPEATED: [Case; 4] = [
     Case {
         live: r#"{"spec":{"env":{"A":"1"},"hosts":["a","b"],"image":"a"}}"#,
@@ -277,7 +276,7 @@ const REPEATED: [Case; 4] = [
         live: r#"{"spec":{"hosts":["a","b"],"image":"a"}}"#,
         own: r#"{"f:spec":{"f:hosts":{"v:\"a\"":{},"v:\"b\"":{}}}}"#,
         other: r#"{"f:spec":{"f:hosts":{"v:\"a\"":{}}}}"#,
-        config: r#"{"spec":{"hosts":["b","a"]}}"#,
+        config: r#"{"spec":{"hosts":["a","b"]}}"#,
         force: true,
         made: "as it was",
     },
@@ -302,6 +301,42 @@ const REPEATED: [Case; 4] = [
 #[test]
 fn a_repeated_configuration_leaves_the_body(rt: HostRuntime) -> Result<(), Fail> {
     for case in &REPEATED {
+        is_made(rt.alloc(), case)?;
+    }
+    Ok(())
+}
+
+// What is there with items in another order: of a set, of a map list with a leaf beside it, and with an item that comes.
+const REORDERED: [Case; 3] = [
+    Case {
+        live: r#"{"spec":{"hosts":["a","b"],"image":"a"}}"#,
+        own: r#"{"f:spec":{"f:hosts":{"v:\"a\"":{},"v:\"b\"":{}}}}"#,
+        other: r#"{"f:spec":{"f:hosts":{"v:\"a\"":{}}}}"#,
+        config: r#"{"spec":{"hosts":["b","a"]}}"#,
+        force: false,
+        made: "a whole body",
+    },
+    Case {
+        live: r#"{"spec":{"image":"a","ports":[{"name":"a","port":1},{"name":"b","port":2}]}}"#,
+        own: r#"{"f:spec":{"f:image":{}}}"#,
+        other: "",
+        config: r#"{"spec":{"image":"b","ports":[{"name":"b"},{"name":"a"}]}}"#,
+        force: false,
+        made: "a whole body",
+    },
+    Case {
+        live: r#"{"spec":{"hosts":["a","b"]}}"#,
+        own: r#"{"f:spec":{"f:hosts":{"v:\"a\"":{}}}}"#,
+        other: "",
+        config: r#"{"spec":{"hosts":["b","c","a"]}}"#,
+        force: false,
+        made: "a whole body",
+    },
+];
+
+#[test]
+fn a_reordered_configuration_makes_a_whole_body(rt: HostRuntime) -> Result<(), Fail> {
+    for case in &REORDERED {
         is_made(rt.alloc(), case)?;
     }
     Ok(())

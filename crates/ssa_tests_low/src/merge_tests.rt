@@ -251,6 +251,47 @@ const SAME: [(&str, &str, &str); 6] = [
     ("{}", "{}", "true"),
 ];
 
+// A live body and a configuration, and whether the items that both have stand in one order in each list: the same items; fewer
+// and new ones among them; those of both exchanged, in a set, in a map list and between new ones; nothing but new ones; many
+// items with some left out, and the same with two exchanged; and other fields and leaves, or none, alone.
+const ORDERS: [(&str, &str, &str); 15] = [
+    (SAMPLE, SAMPLE, "true"),
+    (r#"{"s":[5,3,4,1]}"#, r#"{"s":[3,1]}"#, "true"),
+    (r#"{"s":[5,3,4,1]}"#, r#"{"s":[7,5,8,4,9]}"#, "true"),
+    (r#"{"s":[2,1]}"#, r#"{"s":[1,2]}"#, "false"),
+    (r#"{"s":[5,3,4,1]}"#, r#"{"s":[5,4,3]}"#, "false"),
+    (r#"{"s":[5,3,4,1]}"#, r#"{"s":[7,1,8,5,9]}"#, "false"),
+    (
+        r#"{"l":[{"n":1},{"n":2},{"n":3}]}"#,
+        r#"{"l":[{"n":3},{"n":1}]}"#,
+        "false",
+    ),
+    (
+        r#"{"l":[{"n":1},{"n":2},{"n":3}]}"#,
+        r#"{"l":[{"n":1,"t":5},{"n":4},{"n":3}]}"#,
+        "true",
+    ),
+    (r#"{"s":[2,1]}"#, r#"{"s":[4,3]}"#, "true"),
+    (r#"{"s":[2,1]}"#, r#"{"s":[]}"#, "true"),
+    (
+        r#"{"s":[11,4,7,2,9,1,3,12,5,8,6,10]}"#,
+        r#"{"s":[11,7,0,2,1,3,12,8,6,10]}"#,
+        "true",
+    ),
+    (
+        r#"{"s":[11,4,7,2,9,1,3,12,5,8,6,10]}"#,
+        r#"{"s":[11,7,0,2,1,3,8,12,6,10]}"#,
+        "false",
+    ),
+    (
+        r#"{"a":1,"d":{"x":1,"z":1},"v":[1,2]}"#,
+        r#"{"a":2,"d":{"w":1,"z":2},"v":[2,1]}"#,
+        "true",
+    ),
+    (r#"{"s":[2,1]}"#, r#"{"l":[{"n":1}]}"#, "true"),
+    ("{}", r#"{"s":[2,1]}"#, "true"),
+];
+
 /// What is asked of a body beside another.
 pub enum AskedBeside {
     /// The paths that the other adds, modifies and removes.
@@ -259,6 +300,8 @@ pub enum AskedBeside {
     Part,
     /// Whether the two are one.
     Same,
+    /// Whether the items that both have stand in one order in each list.
+    InOneOrder,
 }
 
 // The answer of two bodies.
@@ -272,6 +315,7 @@ fn told_beside(
         AskedBeside::Compared => compared(alloc, own, other),
         AskedBeside::Part => compared_part(alloc, own, other),
         AskedBeside::Same => truth(alloc, own.is_same(other)),
+        AskedBeside::InOneOrder => truth(alloc, own.keeps_order(alloc, other)?),
     }
 }
 
@@ -296,4 +340,13 @@ fn bodies_are_merged_and_compared(rt: HostRuntime) -> Result<(), Fail> {
         &PARTS,
     )?;
     are_told_of_two(rt.alloc(), &QuestionOfTwo::Bodies(AskedBeside::Same), &SAME)
+}
+
+#[test]
+fn orders_are_compared(rt: HostRuntime) -> Result<(), Fail> {
+    are_told_of_two(
+        rt.alloc(),
+        &QuestionOfTwo::Bodies(AskedBeside::InOneOrder),
+        &ORDERS,
+    )
 }

@@ -1,5 +1,5 @@
 -- A configuration put over a live body, of which some places go, told by trees.
-use Rattle.std.proofs.Common.{◌≡◌, List, [], ◌∷◌, true, not, Some, sym, ap, subst, ◌∙◌}
+use Rattle.std.proofs.Common.{◌≡◌, List, [], ◌∷◌, true, not, Some, sym, ap, subst, subst₂, ◌∙◌}
 use Rattle.std.specs.Prelude.{is_some}
 use Rattle.ssa_model.specs.definitions.Body.{Body, over, over_content}
 use Rattle.ssa_model.specs.definitions.Path.{Path, same_path}
@@ -11,9 +11,11 @@ use Rattle.ssa_path.specs.declared.element.Elem.{Elem}
 use Rattle.ssa_path.specs.declared.trie.Trie.{Trie}
 use Rattle.ssa_path.proofs.Levels.{any-level, one-below-root, same_path-reading}
 use Rattle.ssa_typed.specs.Applied.{applied, MayGo}
+use Rattle.ssa_typed.specs.KeepsOrder.{KeepsItemOrder}
 use Rattle.ssa_typed.specs.Restricted.{part_at}
 use Rattle.ssa_typed.specs.Rows.{body_of, content_at, is_tree, rows}
 use Rattle.ssa_typed.specs.declared.node.Node.{Node}
+use Rattle.ssa_typed.proofs.KeepingOrder.{order-trees}
 use Rattle.ssa_typed.proofs.Looks.{get-body}
 use Rattle.ssa_typed.proofs.Lookups.{content-root}
 use Rattle.ssa_typed.proofs.Restricting.{below_set}
@@ -38,9 +40,10 @@ module _ (live config : Body) (gone : PathSet) (n m : Node) (t : Trie) (is_live 
   in-gone [] = may.kept [] (in-config [] ∙ ap is_some (content-root m)) ∙ sym (one-below-root (below_set t))
   in-gone (e ∷ p) = in-paths (e ∷ p) ∙ any-level same_path same_path-reading t e p
 
-  -- what may go of the body may part of its tree
-  pub may-part : MayPart (gone_below (below_set t)) n (Some m)
-  may-part = record {
+  -- what may go of the body may part of its tree, where the configuration keeps the order
+  pub may-part : KeepsItemOrder live config → MayPart (gone_below (below_set t)) n (Some m)
+  may-part order = record {
+    order = order-trees n m (subst₂ KeepsItemOrder (sym is_live) (sym is_config) order);
     kept = λ p some. sym (in-gone p) ∙ may.kept p (in-config p ∙ some);
     whole = λ p q goes below_it some. sym (in-gone q) ∙ may.whole p q (in-gone p ∙ goes) below_it (in-live q ∙ some);
   }

@@ -2,8 +2,11 @@
 use Rattle.std.proofs.Common.{◌≡◌, ℕ, List, [], ◌∷◌, ◌++◌, drop, Bool, true, false, not, ◌&&◌, cond, Option, Some, None, refl, sym, ap, subst, ◌∙◌, append-nil, true≢false}
 use Rattle.std.specs.Prelude.{filter, is_some}
 use Rattle.std.proofs.lemmas.Option.{none-some}
+use Rattle.std.specs.Cmp.Lexicographic.{pointwise}
 use Rattle.ssa_model.specs.definitions.Body.{Content, leaf, atom, record_branch, dict_branch, list_branch, is_leaf, over_content}
-use Rattle.ssa_model.specs.definitions.Path.{Element, Path, same_path, under}
+use Rattle.ssa_model.specs.definitions.Kind.{is_among}
+use Rattle.ssa_model.specs.definitions.Path.{Element, Path, same_element, same_path, under}
+use Rattle.ssa_model.specs.definitions.Record.{is_reordered}
 use Rattle.ssa_model.proofs.Basics.{both-true as both}
 use Rattle.ssa_model.proofs.Tables.{element-itself as same_element-itself}
 use Rattle.ssa_path.specs.Children.{child_at, elements, rises}
@@ -70,10 +73,31 @@ pub unlooked-applying : (p : Path) (gone : Gone) (n : Node) (steps : List Step) 
     → IsApplying p gone n None steps steps
 unlooked-applying p gone n steps tree none = (n, unlooked gone n tree (λ q there. none q), leading-same p (marks n) (marks n) steps steps refl (λ q. refl))
 
+-- beside nothing, nothing stands in another order
+nothing-ordered : (o : Option Content) → is_reordered o None ≡ false
+nothing-ordered None = refl
+nothing-ordered (Some (leaf s)) = refl
+nothing-ordered (Some (atom v)) = refl
+nothing-ordered (Some record_branch) = refl
+nothing-ordered (Some dict_branch) = refl
+nothing-ordered (Some (list_branch es)) = refl
+
+none-of : (es : List Element) → filter (λ e. is_among e []) es ≡ []
+none-of [] = refl
+none-of (e ∷ es) = none-of es
+
+no-items : (c : Content) → is_reordered (Some c) (Some (list_branch [])) ≡ false
+no-items (leaf s) = refl
+no-items (atom v) = refl
+no-items record_branch = refl
+no-items dict_branch = refl
+no-items (list_branch es) = ap (λ l. not (pointwise same_element l [])) (none-of es)
+
 -- what is applied below a child is told by the child itself
 pub may-child : (gone : Gone) (live : Node) (config : List Child) (e : Element) (c : Node) → is_tree live ≡ true → child_at e (below live) ≡ Some c
     → MayPartBelow gone live config → MayPart (behind e gone) c (child_at e config)
 may-child gone live config e c tree there may = record {
+  order = λ p. ap (λ o. is_reordered (content_in o p) (content_in (child_at e config) p)) (sym there) ∙ may.order e p;
   kept = may.kept e;
   whole = λ p q goes below_it some.
       may.whole (e ∷ p) (e ∷ q) goes (ap (λ b. b && under p q) (same_element-itself e) ∙ below_it)
@@ -82,7 +106,7 @@ may-child gone live config e c tree there may = record {
 
 -- at a place of which the configuration has nothing
 pub may-without : (gone : Gone) (live : Node) → gone [] ≡ false → MayPart gone live None → MayPartBelow gone live []
-may-without gone live root may = record { root = root; kept = λ e p some. absurd (true≢false (sym some)); whole = may.whole }
+may-without gone live root may = record { items = no-items (own_content live); order = λ e p. nothing-ordered (content_in (child_at e (below live)) p); root = root; kept = λ e p some. absurd (true≢false (sym some)); whole = may.whole }
 
 -- ---- what stays, in its order
 

@@ -3,24 +3,29 @@ use Rattle.std.proofs.Common.{◌≡◌, ℕ, get_or, ◌+◌, ◌-◌, ◌<◌,
 use Rattle.std.specs.Prelude.{filter, is_some}
 use Rattle.std.specs.List.{list_any}
 use Rattle.std.proofs.lemmas.List.{drop_more, length-drop, length-map, nil_from_length}
-use Rattle.ssa_model.specs.definitions.Body.{Content, leaf, atom, record_branch, dict_branch, list_branch, joined, over_content}
+use Rattle.ssa_model.specs.definitions.Body.{Content, leaf, atom, record_branch, dict_branch, list_branch, joined, order_at, over_content}
 use Rattle.ssa_model.specs.definitions.Kind.{is_among}
 use Rattle.ssa_model.specs.definitions.Path.{Element, Path, same_element}
+use Rattle.ssa_model.specs.definitions.Record.{is_reordered}
 use Rattle.ssa_path.specs.Children.{child_at, elements, rises}
 use Rattle.ssa_path.specs.View.{element_view}
 use Rattle.ssa_path.specs.declared.element.Elem.{Elem}
 use Rattle.ssa_path.specs.declared.trie.Trie.{Trie}
 use Rattle.ssa_path.proofs.Lists.{left-at}
+use Rattle.ssa_typed.specs.Alike.{are_alike}
 use Rattle.ssa_typed.specs.MergedOrder.{beside, is_new}
 use Rattle.ssa_typed.specs.Over.{AreAlikeBelow, AreAlikeTrees}
 use Rattle.ssa_typed.specs.Points.{content_in}
 use Rattle.ssa_typed.specs.Restricted.{part_at}
-use Rattle.ssa_typed.specs.Rows.{are_apart, are_trees, below, content_at, is_tree, own_content, rows}
+use Rattle.ssa_typed.specs.Rows.{are_apart, are_trees, below, below_of, content_at, content_of, is_tree, own_content, rows}
 use Rattle.ssa_typed.specs.declared.node.Leaf.{Leaf as LeafType}
+use Rattle.ssa_typed.specs.declared.node.Leaf.TheVariants.{Scalar, Atomic}
 use Rattle.ssa_typed.specs.declared.node.Node.{Node, Leaf as LeafOf}
+use Rattle.ssa_typed.specs.declared.node.Node.TheOpen.{Node-F}
+use Rattle.ssa_typed.specs.declared.node.Node.TheViews.{out-Node}
 use Rattle.ssa_typed.proofs.Lookups.{child-tree, content-level, content-root}
 use Rattle.ssa_typed.proofs.OverNodes.{leaf-over}
-use Rattle.ssa_typed.proofs.Overlaying.{child-at-index, new-child}
+use Rattle.ssa_typed.proofs.Overlaying.{alike-root, child-at-index, new-child}
 use Rattle.ssa_typed.proofs.Pairs.{element-beside, joined-alike, same-length}
 use Rattle.ssa_typed.proofs.SortedOut.{whole-child}
 use Rattle.ssa_typed.proofs.Restricting.{below_set}
@@ -93,9 +98,35 @@ leaf-applied gone n m l tree tree_m alike may is =
 
 -- ---- a place
 
+-- a list's items are its children
+listed-items : (x : Node-F Node) (fs : List Element) → content_of x ≡ list_branch fs → fs ≡ elements (below_of x)
+listed-items (Node-F.Leaf (Scalar s)) fs h = cc
+listed-items (Node-F.Leaf (Atomic v)) fs h = cc
+listed-items (Node-F.Branch v) fs h = cc
+listed-items (Node-F.Dict v) fs h = cc
+listed-items (Node-F.List v) fs h = let same : list_branch fs ≡ list_branch (elements v.items) = sym h in ap (λ c. order_at (Some c)) same
+
+-- where alike places keep the order, the children of the second do, were they a list's
+items-ordered : (c d : Content) (es : List Element) → are_alike (Some c) (Some d) ≡ true → ((fs : List Element) → d ≡ list_branch fs → fs ≡ es)
+    → is_reordered (Some c) (Some d) ≡ false → is_reordered (Some c) (Some (list_branch es)) ≡ false
+items-ordered (leaf s) d es alike own h = refl
+items-ordered (atom v) d es alike own h = refl
+items-ordered record_branch d es alike own h = refl
+items-ordered dict_branch d es alike own h = refl
+items-ordered (list_branch os) (leaf s) es alike own h = absurd (true≢false (sym alike))
+items-ordered (list_branch os) (atom v) es alike own h = absurd (true≢false (sym alike))
+items-ordered (list_branch os) record_branch es alike own h = absurd (true≢false (sym alike))
+items-ordered (list_branch os) dict_branch es alike own h = absurd (true≢false (sym alike))
+items-ordered (list_branch os) (list_branch fs) es alike own h = ap (λ l. is_reordered (Some (list_branch os)) (Some (list_branch l))) (sym (own fs refl)) ∙ h
+
 -- what may part of a tree may part of its place
-pub may-below : (gone : Gone) (n m : Node) (ds : List Child) → is_tree m ≡ true → below m ≡ ds → MayPart gone n (Some m) → MayPartBelow gone n ds
-may-below gone n m ds tree is may = record {
+pub may-below : (gone : Gone) (n m : Node) (ds : List Child) → is_tree n ≡ true → is_tree m ≡ true → AreAlikeTrees n m → below m ≡ ds
+    → MayPart gone n (Some m) → MayPartBelow gone n ds
+may-below gone n m ds tree_n tree alike is may = record {
+  items = items-ordered (own_content n) (own_content m) (elements ds) (alike-root n m alike) (λ fs own. listed-items (out-Node m) fs own ∙ ap elements is)
+      (sym (λ i. is_reordered (content-root n i) (content-root m i)) ∙ may.order []);
+  order = λ e p.
+      sym (λ i. is_reordered (content-level n e p tree_n i) ((content-level m e p tree ∙ ap (λ l. content_in (child_at e l) p) is) i)) ∙ may.order (e ∷ p);
   root = may.kept [] (ap is_some (content-root m));
   kept = λ e p some. may.kept (e ∷ p) (ap is_some (content-level m e p tree ∙ ap (λ l. content_in (child_at e l) p) is) ∙ some);
   whole = may.whole;

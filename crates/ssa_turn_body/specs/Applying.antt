@@ -2,6 +2,7 @@
 use Rattle.std.specs.Prelude.{◌≡◌, ℕ, List, [], ◌∷◌, ◌++◌, Bool, true, false, not, Option, Some, None, is_some, option_map}
 use Rattle.ssa_model.specs.definitions.Body.{Content, leaf, atom, record_branch, dict_branch, list_branch, over_content}
 use Rattle.ssa_model.specs.definitions.Path.{Element, Path, under}
+use Rattle.ssa_model.specs.definitions.Record.{is_reordered}
 use Rattle.ssa_path.specs.Children.{child_at, elements}
 use Rattle.ssa_path.specs.Trie.{is_one_of, paths_below}
 use Rattle.ssa_path.specs.View.{element_view}
@@ -31,8 +32,9 @@ behind e gone p = gone (e ∷ p)
 abbrev pub stays_of : Gone → Path → Bool
 stays_of gone p = not (gone p)
 
--- what is there is kept, and with each of the places that go goes all that is below it
+-- what is there is kept, its items in the order in which the live ones stand, and with each of the places that go goes all that is below it
 pub record MayPart (gone : Gone) (live : Node) (config : Option Node) : Type 0 where
+  pub order : (p : Path) → is_reordered (content_at (rows live) p) (content_in config p) ≡ false
   pub kept : (p : Path) → is_some (content_in config p) ≡ true → gone p ≡ false
   pub whole : (p q : Path) → gone p ≡ true → under p q ≡ true → is_some (content_at (rows live) q) ≡ true → gone q ≡ true
 
@@ -54,6 +56,8 @@ IsMet false k p gone c config t u old new =
 -- ---- a place, and the configuration's children there
 
 pub record MayPartBelow (gone : Gone) (live : Node) (config : List Child) : Type 0 where
+  pub items : is_reordered (Some (own_content live)) (Some (list_branch (elements config))) ≡ false
+  pub order : (e : Element) (p : Path) → is_reordered (content_in (child_at e (below live)) p) (content_in (child_at e config) p) ≡ false
   pub root : gone [] ≡ false
   pub kept : (e : Element) (p : Path) → is_some (content_in (child_at e config) p) ≡ true → gone (e ∷ p) ≡ false
   pub whole : (p q : Path) → gone p ≡ true → under p q ≡ true → is_some (content_at (rows live) q) ≡ true → gone q ≡ true

@@ -15,7 +15,7 @@ use Rattle.ssa_path.specs.View.{element_view}
 use Rattle.ssa_path.proofs.Levels.{any-made, is_trie-made, one-made-root, same_path-reading}
 use Rattle.ssa_path.proofs.Orders.{both_second}
 use Rattle.ssa_typed.specs.Differences.{Difference, Added, Modified, Removed, differs, differs_here, differs_below, differs_at, told_of_lost, told_of_new, AreToldBoth, IsDiffering, IsDifference, IsToldAlone, IsToldBoth, IsToldLost}
-use Rattle.ssa_typed.specs.Over.{IsOver}
+use Rattle.ssa_typed.specs.Repeating.{TreeRepeats}
 use Rattle.ssa_typed.specs.Points.{point_in, collects_of, is_point_of}
 use Rattle.ssa_typed.specs.Rows.{rows, content_at, body_of, is_tree}
 use Rattle.ssa_typed.specs.declared.compare.PartsBelow.{PartsBelow}
@@ -247,7 +247,7 @@ module _ (scope : Scope) (d : Bool) (cs0 ds0 : List (Elem × Node)) (i j : ℕ) 
   pub past-both : (c b : Elem × Node) (new : PartsBelow)
       → heads_order (drop i cs0) (drop j ds0) ≡ Some Equal → slice_get cs0 i ≡ Some c → slice_get ds0 j ≡ Some b
       → is_tree c.1 ≡ true → is_tree b.1 ≡ true → AreToldBoth scope c b.1 old new
-      → (new.repeats ≡ true → (old.repeats ≡ true) × IsOver c.1 b.1 c.1)
+      → (new.repeats ≡ true → (old.repeats ≡ true) × TreeRepeats c.1 b.1)
       → AreComparing scope d cs0 ds0 (drop (i + 1) cs0) (drop (j + 1) ds0) new
   past-both c b new order is_c is_b before after told repeats = record {
     added_so_far = comparing-both Added d cs0 ds0 i j c b old.added.items new.added.items order is_c is_b before after told.added_told h.added_so_far;

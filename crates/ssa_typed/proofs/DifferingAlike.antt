@@ -11,7 +11,7 @@ use Rattle.ssa_path.specs.Children.{child_at, elements, heads_order, rises}
 use Rattle.ssa_path.specs.View.{element_view}
 use Rattle.ssa_typed.specs.Differences.{AreDiffering, AreToldBoth}
 use Rattle.ssa_typed.specs.InOrder.{IsInOrder}
-use Rattle.ssa_typed.specs.Over.{HaveOver, IsOver}
+use Rattle.ssa_typed.specs.Repeating.{ChildrenRepeat, TreeRepeats}
 use Rattle.ssa_typed.specs.Points.{is_in_dict}
 use Rattle.ssa_typed.specs.Rows.{below, is_tree}
 use Rattle.ssa_typed.specs.Same.{AreLeft}
@@ -93,7 +93,7 @@ module _ (scope : Scope) (n m : Node) (cs ds : List Child) (own : cs ≡ below n
 
     -- both are passed, with all that is told of them
     pub alike-more : (old new : PartsBelow) → is_tree n ≡ true → is_tree m ≡ true → AreToldBoth scope c b.1 old new
-        → (new.repeats ≡ true → (old.repeats ≡ true) × IsOver c.1 b.1 c.1) → IsComparedTo i old → IsComparedTo (i + 1) new
+        → (new.repeats ≡ true → (old.repeats ≡ true) × TreeRepeats c.1 b.1) → IsComparedTo i old → IsComparedTo (i + 1) new
     alike-more old new before after told repeats h =
         past-both scope (is_in_dict m) cs ds i i old h c b new heads read other_read (tree-child n (element_view c.0) c.1 before alike-own)
         (tree-child m (element_view b.0) b.1 after alike-other) told repeats
@@ -110,5 +110,5 @@ module _ (scope : Scope) (n m : Node) (cs ds : List Child) (own : cs ≡ below n
     alike-all = past-all scope (is_in_dict m) cs ds n m _ _ told refl left none_own none_other h
 
     -- where the flag still stands, all that is below the first node stays
-    pub alike-repeats : told.repeats ≡ true → HaveOver (below n) (below m) (below n)
+    pub alike-repeats : told.repeats ≡ true → ChildrenRepeat (below n) (below m)
     alike-repeats repeats = repeat-all cs ds n m _ _ left none_own none_other (h.repeats_so_far repeats)

@@ -8,7 +8,7 @@ use Rattle.ssa_path.specs.declared.trie.Trie.{Trie}
 use Rattle.ssa_path.proofs.Orders.{both_first}
 use Rattle.ssa_typed.specs.Alike.{are_branches_alike}
 use Rattle.ssa_typed.specs.Differences.{Difference, Added, Modified, Removed, differs, AreDiffering, AreUnchanged, IsDiffering, IsUntold}
-use Rattle.ssa_typed.specs.Over.{IsOver}
+use Rattle.ssa_typed.specs.Repeating.{TreeRepeats}
 use Rattle.ssa_typed.specs.Points.{content_in, is_in_dict}
 use Rattle.ssa_typed.specs.Rows.{below, is_tree, own_content}
 use Rattle.ssa_typed.specs.Same.{AreLeft, IsLeft, IsSamePair}
@@ -103,7 +103,7 @@ module _ (n m : Node) (before : is_tree n ≡ true) (after : is_tree m ≡ true)
         (none-untold (child_at e (below n)) (child_at e (below m)) p (left.each e))
 
     -- and the second, put over the first, leaves it as it is
-    pub none-left-repeats : IsOver n m n
+    pub none-left-repeats : TreeRepeats n m
     none-left-repeats =
         repeat-level n m before after sort
-        (λ e. left-repeats (child_at e (below n)) (child_at e (below m)) None None (left.each e) (λ p. refl))
+        (λ e. left-repeats (child_at e (below n)) (child_at e (below m)) None None (left.each e) (λ p ordered. refl))

@@ -16,6 +16,8 @@ pub mod Falling
 pub mod Finding
 pub mod Fitting
 pub mod ItemKeys
+pub mod InOneOrder
+pub mod KeepingOrder
 pub mod KindRows
 pub mod KnownPoints
 pub mod LackingPaths

@@ -183,7 +183,7 @@ place-at e (c ∷ cs) (suc i) d apart lt s =
     ] refl
 
 -- a live child is found where there is one
-abbrev is_absent : {A : Type 0} → Option A → Bool
+abbrev pub is_absent : {A : Type 0} → Option A → Bool
 is_absent None = true
 is_absent (Some x) = false
 
@@ -191,7 +191,7 @@ absent-next : (o : Option ℕ) → is_absent (option_map suc o) ≡ is_absent o
 absent-next None = refl
 absent-next (Some i) = refl
 
-new-place : (e : Element) (cs : List Child) → is_absent (child_at e (places cs)) ≡ is_absent (child_at e cs)
+pub new-place : (e : Element) (cs : List Child) → is_absent (child_at e (places cs)) ≡ is_absent (child_at e cs)
 new-place e [] = refl
 new-place e (c ∷ cs) =
     elim (same_element e (element_view c.0)) as (λ b. is_absent (cond b (Some 0) (child_at e (map next_place (places cs))))
@@ -200,7 +200,7 @@ new-place e (c ∷ cs) =
       | false ↦ ap is_absent (child-next e (places cs)) ∙ absent-next (child_at e (places cs)) ∙ new-place e cs
     ]
 
-absent-none : {A : Type 0} (o : Option A) → is_absent o ≡ true → o ≡ None
+pub absent-none : {A : Type 0} (o : Option A) → is_absent o ≡ true → o ≡ None
 absent-none None h = refl
 absent-none (Some x) h = absurd (true≢false (sym h))
 
@@ -217,7 +217,7 @@ scanned-place e cs (Some i) apart some none = found-place e cs i apart some
 is_new-absent : (cs : List Child) (d : Child) → is_new cs d ≡ is_absent (child_at (element_view d.0) cs)
 is_new-absent cs d = elim (child_at (element_view d.0) cs) as (λ o. elim o [ None ↦ true | Some c ↦ false ] ≡ is_absent o) [ None ↦ refl | Some c ↦ refl ]
 
-none-among : (e : Element) (cs : List Child) → is_absent (child_at e cs) ≡ true → list_any (same_element e) (elements cs) ≡ false
+pub none-among : (e : Element) (cs : List Child) → is_absent (child_at e cs) ≡ true → list_any (same_element e) (elements cs) ≡ false
 none-among e [] h = refl
 none-among e (c ∷ cs) h =
     elim (same_element e (element_view c.0)) as (λ b. is_absent (cond b (Some c.1) (child_at e cs)) ≡ true

@@ -8,6 +8,7 @@ use Rattle.ssa_path.specs.Trie.{paths, paths_below, is_one_of, is_trie, are_fill
 use Rattle.ssa_path.specs.declared.element.Elem.{Elem}
 use Rattle.ssa_path.specs.declared.trie.Trie.{Trie}
 use Rattle.ssa_path.specs.View.{element_view}
+use Rattle.ssa_typed.specs.KeepsOrder.{KeepsItemOrder}
 use Rattle.ssa_typed.specs.Points.{content_in, point_in, is_in_dict, IsChildTrie}
 use Rattle.ssa_typed.specs.Rows.{rows, own_content, below, content_at, is_tree}
 use Rattle.ssa_typed.specs.declared.compare.Comparison.{Comparison}
@@ -124,4 +125,4 @@ pub record IsComparison (before after : Body) (c : Comparison) : Type 0 where
 pub record IsPartComparison (body part : Body) (c : PartComparison) : Type 0 where
   pub added_are : c.added ≡ added body part
   pub modified_are : c.modified ≡ modified body part
-  pub repeats : c.repeats ≡ true → over body part ≡ body
+  pub repeats : c.repeats ≡ true → KeepsItemOrder body part → over body part ≡ body

@@ -6,6 +6,7 @@ pub mod Cut
 pub mod Differences
 pub mod Flats
 pub mod InOrder
+pub mod KeepsOrder
 pub mod Lacking
 pub mod Look
 pub mod Lookup
@@ -17,6 +18,7 @@ pub mod Over
 pub mod Points
 pub mod Reached
 pub mod Reads
+pub mod Repeating
 pub mod Restricted
 pub mod Rows
 pub mod Same

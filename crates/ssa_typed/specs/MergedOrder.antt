@@ -2,13 +2,13 @@
 use Rattle.std.specs.Prelude.{◌≡◌, List, [], ◌∷◌, ◌++◌, map, filter, Bool, true, false, Option, None, Some, ℕ, suc, if◌then◌else◌}
 use Rattle.std.specs.Borrow.{Bor}
 use Rattle.ssa_model.specs.definitions.Path.{Element, same_element}
-use Rattle.ssa_path.specs.Children.{child_at, elements}
+use Rattle.ssa_path.specs.Children.{child_at, elements, rises}
 use Rattle.ssa_path.specs.View.{element_view}
 use Rattle.ssa_path.specs.declared.element.Elem.{Elem}
 use Rattle.ssa_typed.specs.InOrder.{IsInOrder}
 use Rattle.ssa_typed.specs.Rows.{are_apart}
 use Rattle.ssa_typed.specs.declared.merged_order.Places.{Places}
-use Rattle.ssa_typed.specs.declared.merged_order.Places.TheVariants.{AsTheyStand, InOrder}
+use Rattle.ssa_typed.specs.declared.merged_order.Places.TheVariants.{AsTheyStand, Rising, InOrder}
 use Rattle.ssa_typed.specs.declared.node.Node.{Node}
 
 -- an element, its node, and what the configuration has over that
@@ -53,7 +53,8 @@ places (c ∷ cs) = (c.0, 0) ∷ map next_place (places cs)
 abbrev pub lent_place : Bor Elem × ℕ → Elem × ℕ
 lent_place p = (p.0.now, p.1)
 
--- by these, live children are found: as they stand, where their elements are apart, or by their elements in order
+-- by these, live children are found: as they stand, where their elements are apart; where they rise; or by their elements in order
 abbrev pub ArePlacesOf : List (Elem × Node) → Places → Type 0
 ArePlacesOf live (AsTheyStand own) = (own.now ≡ live) × (are_apart (elements live) ≡ true)
+ArePlacesOf live (Rising own) = (own.now ≡ live) × (rises (elements live) ≡ true)
 ArePlacesOf live (InOrder sorted) = IsInOrder (places live) (map lent_place sorted.items)

@@ -11,7 +11,7 @@ ghost use Rattle.ssa_typed.specs.declared.compare.Scope.{Scope};
 ghost use Rattle.ssa_typed.specs.declared.node.Node.{Leaf as LeafOf};
 ghost use Rattle.ssa_typed.specs.Differences.{AreDifferences, AreDiffering, AreToldBoth, IsComparison, IsToldAlone, IsToldLost};
 ghost use Rattle.ssa_typed.specs.Ordered.{lent_children};
-ghost use Rattle.ssa_typed.specs.Over.{HaveOver, IsOver};
+ghost use Rattle.ssa_typed.specs.Repeating.{ChildrenRepeat, TreeRepeats};
 ghost use Rattle.ssa_typed.specs.Rows.{below, is_tree, own_content};
 ghost use Rattle.ssa_typed.specs.Same.{AreLeft};
 
@@ -184,7 +184,7 @@ fn push_leaf(
     other: &Leaf,
 ) -> Result<(), AllocError>
     ensures told { OnOk result ((scope : Scope) → AreToldBoth scope (element.now, LeafOf own.now) (LeafOf other.now) told.old told.new) }
-    ensures repeats { OnOk result (told.new.repeats ≡ true → (told.old.repeats ≡ true) × IsOver (LeafOf own.now) (LeafOf other.now) (LeafOf own.now)) }
+    ensures repeats { OnOk result (told.new.repeats ≡ true → (told.old.repeats ≡ true) × TreeRepeats (LeafOf own.now) (LeafOf other.now)) }
 {
     if own.is_same(other) {
         return Ok(());
@@ -214,7 +214,7 @@ fn push_differing(
     requires before { is_tree child.now.1 ≡ true }
     requires after { is_tree after.now ≡ true }
     ensures told { OnOk result (AreToldBoth scope child.now after.now told.old told.new) }
-    ensures repeats { OnOk result (told.new.repeats ≡ true → (told.old.repeats ≡ true) × IsOver child.now.1 after.now child.now.1) }
+    ensures repeats { OnOk result (told.new.repeats ≡ true → (told.old.repeats ≡ true) × TreeRepeats child.now.1 after.now) }
 {
     if let (Node::Leaf(own), Node::Leaf(other)) = (&child.1, after) {
         return push_leaf(alloc, told, &child.0, own, other);
@@ -237,7 +237,7 @@ fn push_branches(
     requires before { is_tree child.now.1 ≡ true }
     requires after { is_tree after.now ≡ true }
     ensures told { OnOk result (AreToldBoth scope child.now after.now told.old told.new) }
-    ensures repeats { OnOk result (told.new.repeats ≡ true → (told.old.repeats ≡ true) × IsOver child.now.1 after.now child.now.1) }
+    ensures repeats { OnOk result (told.new.repeats ≡ true → (told.old.repeats ≡ true) × TreeRepeats child.now.1 after.now) }
 {
     if child.1.are_lists(after) {
         return push_items(alloc, scope, told, child, after);
@@ -263,7 +263,7 @@ fn push_items(
     requires after { is_tree after.now ≡ true }
     requires lists { are_branches_alike (own_content child.now.1) (own_content after.now) ≡ true }
     ensures told { OnOk result (AreToldBoth scope child.now after.now told.old told.new) }
-    ensures repeats { OnOk result (told.new.repeats ≡ true → (told.old.repeats ≡ true) × IsOver child.now.1 after.now child.now.1) }
+    ensures repeats { OnOk result (told.new.repeats ≡ true → (told.old.repeats ≡ true) × TreeRepeats child.now.1 after.now) }
 {
     let (own, others) = between_same(child.1.children(), after.children());
     if own.is_empty() && others.is_empty() {
@@ -313,7 +313,7 @@ fn differing_beside(
     requires others { rises (elements (lent_children others.now)) ≡ true }
     requires left { AreLeft (below before.now) (below after.now) (lent_children own.now) (lent_children others.now) }
     ensures told { IfOk result (λ v. AreDiffering scope before.now after.now v) }
-    ensures repeats { IfOk result (λ v. v.repeats ≡ true → HaveOver (below before.now) (below after.now) (below before.now)) }
+    ensures repeats { IfOk result (λ v. v.repeats ≡ true → ChildrenRepeat (below before.now) (below after.now)) }
 {
     let in_dict = after.is_dict();
     let (mut i, mut j) = (0, 0);
@@ -374,7 +374,7 @@ fn differing_alike(
     requires same { elements (below before.now) ≡ elements (below after.now) }
     requires rise { rises (elements (below before.now)) ≡ true }
     ensures told { IfOk result (λ v. AreDiffering scope before.now after.now v) }
-    ensures repeats { IfOk result (λ v. v.repeats ≡ true → HaveOver (below before.now) (below after.now) (below before.now)) }
+    ensures repeats { IfOk result (λ v. v.repeats ≡ true → ChildrenRepeat (below before.now) (below after.now)) }
 {
     let (own, others) = (before.children(), after.children());
     let mut told = PartsBelow::of_none(alloc);
@@ -397,7 +397,7 @@ fn differing_below(
     requires before { is_tree before.now ≡ true }
     requires after { is_tree after.now ≡ true }
     ensures told { IfOk result (λ v. AreDiffering scope before.now after.now v) }
-    ensures repeats { IfOk result (λ v. v.repeats ≡ true → HaveOver (below before.now) (below after.now) (below before.now)) }
+    ensures repeats { IfOk result (λ v. v.repeats ≡ true → ChildrenRepeat (below before.now) (below after.now)) }
 {
     if stand_in_order_alike(before, after) {
         return differing_alike(alloc, scope, before, after);
@@ -418,7 +418,7 @@ fn differing_apart(
     requires before { is_tree before.now ≡ true }
     requires after { is_tree after.now ≡ true }
     ensures told { IfOk result (λ v. AreDiffering scope before.now after.now v) }
-    ensures repeats { IfOk result (λ v. v.repeats ≡ true → HaveOver (below before.now) (below after.now) (below before.now)) }
+    ensures repeats { IfOk result (λ v. v.repeats ≡ true → ChildrenRepeat (below before.now) (below after.now)) }
 {
     let own = &before.ordered(alloc)?;
     let others = &after.ordered(alloc)?;
@@ -432,7 +432,7 @@ fn parts_of(before: &Node, after: &Node, told: PartsBelow) -> Parts
     requires before { is_tree before.now ≡ true }
     requires after { is_tree after.now ≡ true }
     ensures told { (scope : Scope) → AreDiffering scope before.now after.now told → AreDifferences scope before.now after.now result }
-    ensures repeats { (told.repeats ≡ true → HaveOver (below before.now) (below after.now) (below before.now)) → result.repeats ≡ true → IsOver before.now after.now before.now }
+    ensures repeats { (told.repeats ≡ true → ChildrenRepeat (below before.now) (below after.now)) → result.repeats ≡ true → TreeRepeats before.now after.now }
 {
     let here = before.is_other_leaf(after);
     let repeats = told.repeats && before.is_branch_like(after);
@@ -467,7 +467,7 @@ fn differing_items(
     requires after { is_tree after.now ≡ true }
     requires left { AreLeft (below before.now) (below after.now) own.now others.now }
     ensures told { IfOk result (λ v. AreDifferences scope before.now after.now v) }
-    ensures repeats { IfOk result (λ v. v.repeats ≡ true → IsOver before.now after.now before.now) }
+    ensures repeats { IfOk result (λ v. v.repeats ≡ true → TreeRepeats before.now after.now) }
 {
     let own = &items_in_order(alloc, own)?;
     let others = &items_in_order(alloc, others)?;
@@ -486,7 +486,7 @@ pub(crate) fn differing_parts(
     requires before { is_tree before.now ≡ true }
     requires after { is_tree after.now ≡ true }
     ensures told { IfOk result (λ v. AreDifferences scope before.now after.now v) }
-    ensures repeats { IfOk result (λ v. v.repeats ≡ true → IsOver before.now after.now before.now) }
+    ensures repeats { IfOk result (λ v. v.repeats ≡ true → TreeRepeats before.now after.now) }
 {
     let told = differing_below(alloc, scope, before, after)?;
     Ok(parts_of(before, after, told))

@@ -4,10 +4,11 @@ ghost use Rattle.ssa_path.specs.Children.{child_at, elements, rises};
 ghost use Rattle.ssa_path.specs.View.{element_view};
 ghost use Rattle.ssa_typed.specs.InOrder.{IsInOrder};
 ghost use Rattle.ssa_typed.specs.MergedOrder.{beside, is_new, lent_place, places, ArePlacesOf};
-ghost use Rattle.ssa_typed.specs.Rows.{are_apart};
+ghost use Rattle.ssa_typed.specs.Rows.{are_apart, below, is_tree};
 
+use crate::in_order::stand_alike;
 use crate::node::Node;
-use ssa_path::children::{FEW, scan};
+use ssa_path::children::{FEW, find, scan};
 use ssa_path::element::Elem;
 use std::alloc::{AllocError, Global};
 
@@ -54,9 +55,11 @@ pub fn find_place(sorted: &[(&Elem, usize)], element: &Elem) -> Option<usize>
 
 /// Where the children of a live place stand, to be found by their elements.
 #[derive(Drop)]
-enum Places<'a> {
+pub(crate) enum Places<'a> {
     /// Few children, each of which is looked at.
     AsTheyStand(&'a [(Elem, Node)]),
+    /// The fields of a record or the entries of a Dict, which rise.
+    Rising(&'a [(Elem, Node)]),
     /// The elements of many in order, each with its place.
     InOrder(Vec<(&'a Elem, usize)>),
 }
@@ -74,13 +77,54 @@ impl<'a> Places<'a> {
         Ok(Places::InOrder(sorted))
     }
 
+    // The places of the children of a live node, to be found for these others. Where both stand alike nothing has to be looked
+    // for, and the fields of a record and the entries of a Dict rise.
+    pub(crate) fn beside(
+        alloc: Global,
+        live: &'a Node,
+        others: &[(Elem, Node)],
+    ) -> Result<Places<'a>, AllocError>
+        requires { is_tree live.now ≡ true }
+        ensures { IfOk result (ArePlacesOf (below live.now)) }
+    {
+        let children = live.children();
+        if stand_alike(children, others) {
+            return Ok(Places::AsTheyStand(children));
+        }
+        match live {
+            Node::Leaf(_) => Ok(Places::AsTheyStand(children)),
+            Node::Branch(_) => Ok(Places::Rising(children)),
+            Node::Dict(_) => Ok(Places::Rising(children)),
+            Node::List(_) => Places::of(alloc, children),
+        }
+    }
+
+    // The place of the live child of this element, looked for first at `near`.
+    #[inline(always)]
+    pub(crate) fn find_near(
+        &self,
+        live: &[(Elem, Node)],
+        near: usize,
+        element: &Elem,
+    ) -> Option<usize>
+        requires places { ArePlacesOf live.now self.now }
+        requires apart { are_apart (elements live.now) ≡ true }
+        ensures { child_at (element_view element.now) (places live.now) ≡ result }
+    {
+        if near < live.len() && element.is_same(&live[near].0) {
+            return Some(near);
+        }
+        self.find(element)
+    }
+
     // The place of the live child of this element.
-    fn find(&self, element: &Elem) -> Option<usize>
+    pub(crate) fn find(&self, element: &Elem) -> Option<usize>
         requires { (live : List (Elem × Node)) × ArePlacesOf live self.now }
         ensures { (live : List (Elem × Node)) → ArePlacesOf live self.now → child_at (element_view element.now) (places live) ≡ result }
     {
         match self {
             Places::AsTheyStand(live) => scan(live, element),
+            Places::Rising(live) => find(live, element),
             Places::InOrder(sorted) => find_place(sorted, element),
         }
     }

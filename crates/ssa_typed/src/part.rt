@@ -12,6 +12,7 @@ pub struct PartComparison {
     pub added: FieldSet,
     /// The paths at which both have leaves of one sort with other contents.
     pub modified: FieldSet,
-    /// Whether the part, put over the body, leaves it as it is. Of `false` nothing is promised.
+    /// Whether the part, put over the body, leaves it as it is, where the items that both have stand in one order in each list
+    /// ([`keeps_order`](crate::body::Body::keeps_order)). Of `false` nothing is promised.
     pub repeats: bool,
 }

@@ -17,6 +17,7 @@ returns-then-has_room-clause-stands c =
       pruned-may-go state a c.args.config c.points_tell_places-2.ensures c.args.gone.now c.requires.gone,
       applied-rooted state a c.args.config c.points_tell_places-2.ensures c.args.gone.now c.requires.gone c.parts_are_of_places.ensures
           c.parts_are_of_places-2.ensures c.points_tell_places.ensures c.requires.alike c.stands_rooted.ensures c.stands_rooted-2.ensures c.requires.owned,
+      c.requires.order c.if-in_order.true,
     )
 
 pub laid_over-requires-clause-gone : goal.laid_over-requires-clause-gone

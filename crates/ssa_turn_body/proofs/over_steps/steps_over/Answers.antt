@@ -24,7 +24,7 @@ pub over-requires-clause-may : goal.over-requires-clause-may
 over-requires-clause-may c =
     subst (λ ts. MayPart (gone_below ts) c.root.result.now (Some c.take_root-root.result)) (sym c.deref.ensures.value)
     (may-part c.args.live.now c.args.config c.args.gone.now c.root.result.now c.take_root-root.result c.root-lost.result.now c.root.ensures.seen
-    c.take_root-root.ensures.seen c.root-lost.ensures.same c.requires.gone)
+    c.take_root-root.ensures.seen c.root-lost.ensures.same c.requires.gone c.requires.order)
 
 pub returns-clause-fits : goal.returns-clause-fits
 returns-clause-fits c =

@@ -667,7 +667,7 @@ over-over_children-requires t c =
             kind-stands _ kind-Branch branch-Branch live config _ is r.live r.config r.alike,
             (
               kind-alike _ kind-Branch branch-Branch live config _ is r.live r.config r.alike,
-              (r.rise, (r.tries, may-below (gone_below c.args.gone.now) live config _ r.config under r.may)),
+              (r.rise, (r.tries, may-below (gone_below c.args.gone.now) live config _ r.live r.config r.alike under r.may)),
             ),
           ),
         ),
@@ -702,7 +702,7 @@ over-over_children-requires-in-Dict t c =
             kind-stands _ kind-Dict branch-Dict live config _ is r.live r.config r.alike,
             (
               kind-alike _ kind-Dict branch-Dict live config _ is r.live r.config r.alike,
-              (r.rise, (r.tries, may-below (gone_below c.args.gone.now) live config _ r.config under r.may)),
+              (r.rise, (r.tries, may-below (gone_below c.args.gone.now) live config _ r.live r.config r.alike under r.may)),
             ),
           ),
         ),
@@ -737,7 +737,7 @@ over-over_children-requires-in-List t c =
             kind-stands _ kind-List branch-List live config _ is r.live r.config r.alike,
             (
               kind-alike _ kind-List branch-List live config _ is r.live r.config r.alike,
-              (r.rise, (r.tries, may-below (gone_below c.args.gone.now) live config _ r.config under r.may)),
+              (r.rise, (r.tries, may-below (gone_below c.args.gone.now) live config _ r.live r.config r.alike under r.may)),
             ),
           ),
         ),

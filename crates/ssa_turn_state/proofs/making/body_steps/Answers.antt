@@ -22,7 +22,7 @@ steps_to-requires c =
 pub steps_over-requires : goal.steps_over-requires
 steps_over-requires c =
     let stands = subst (λ o. CanStand o c.args.comparison.now.removed c.args.from.now) c.in-Over.is c.requires.stands in
-    record { alike = stands.0; gone = stands.1 }
+    record { alike = stands.0; gone = stands.1; order = stands.3 }
 
 pub returns-in-Whole-clause-told : goal.returns-in-Whole-clause-told
 returns-in-Whole-clause-told c =

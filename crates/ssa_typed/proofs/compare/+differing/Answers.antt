@@ -1,7 +1,8 @@
-use Rattle.std.proofs.Common.{◌≡◌, ℕ, [], ◌+◌, ◌*◌, ◌<◌, ◌∙◌, ap, get_or, length, sym, Some, arith, rules, subst₂}
+use Rattle.std.proofs.Common.{◌≡◌, ℕ, [], ◌+◌, ◌*◌, ◌<◌, ◌∙◌, ◌&&◌, ap, get_or, length, sym, Some, true, arith, rules, subst₂}
 use Rattle.std.proofs.lemmas.Bool.Decides.{nat_tests}
 use Rattle.ssa_path.specs.View.{element_view}
 use Rattle.ssa_path.proofs.Combining.{heads-none}
+use Rattle.ssa_path.proofs.Orders.{both_first, both_second}
 use Rattle.ssa_typed.specs.Differences.{AreToldBoth}
 use Rattle.ssa_typed.specs.Ordered.{lent_children}
 use Rattle.ssa_typed.specs.Rows.{below, rows}
@@ -243,3 +244,19 @@ push_items-returns-then-is_empty-2-clause-told t c =
 pub push_items-returns-then-is_empty-2-clause-repeats : goal.push_items-returns-then-is_empty-2-clause-repeats
 push_items-returns-then-is_empty-2-clause-repeats t c repeats =
     (repeats, none-left-repeats c.args.child.now.1 c.args.after.now c.requires.before c.requires.after c.requires.lists (no-items-left t c))
+
+pub push_branches-returns-clause-repeats : goal.push_branches-returns-clause-repeats
+push_branches-returns-clause-repeats t c =
+    ok-gives c.push_parts.result c.push_parts.ensures.repeats (λ sum repeats.
+    let both : (c.args.told.now.repeats && c.in_ok-parts.parts.repeats) ≡ true = sym sum ∙ repeats in (
+      both_first c.args.told.now.repeats c.in_ok-parts.parts.repeats both,
+      c.in_ok-parts.ensures.repeats (both_second c.args.told.now.repeats c.in_ok-parts.parts.repeats both),
+    ))
+
+pub push_items-returns-clause-repeats : goal.push_items-returns-clause-repeats
+push_items-returns-clause-repeats t c =
+    ok-gives c.push_parts.result c.push_parts.ensures.repeats (λ sum repeats.
+    let both : (c.args.told.now.repeats && c.in_ok-parts.parts.repeats) ≡ true = sym sum ∙ repeats in (
+      both_first c.args.told.now.repeats c.in_ok-parts.parts.repeats both,
+      c.in_ok-parts.ensures.repeats (both_second c.args.told.now.repeats c.in_ok-parts.parts.repeats both),
+    ))

@@ -1,8 +1,9 @@
-use Rattle.std.proofs.Common.{◌∙◌, sym}
+use Rattle.std.proofs.Common.{◌∙◌, subst₂, sym}
 use Rattle.ssa_model.specs.definitions.Body.{added, modified, over}
 use Rattle.ssa_typed.specs.Differences.{Added, Modified}
+use Rattle.ssa_typed.specs.KeepsOrder.{KeepsItemOrder}
 use Rattle.ssa_typed.proofs.Differing.{difference-listed}
-use Rattle.ssa_typed.proofs.OverNodes.{over-body}
+use Rattle.ssa_typed.proofs.KeepingOrder.{repeated-body}
 use Rattle.ssa_typed.proofs.body.Body.compare_part.Goals as goal
 
 pub returns : goal.returns
@@ -17,6 +18,7 @@ returns c =
       modified_are = c.from_root-2.ensures
           ∙ difference-listed Modified n m told.modified c.self.invariant.tree c.part.invariant.tree c.in_ok-told.ensures.told.modified_trie
           ∙ (λ i. modified (c.self.view_is i) (c.part.view_is i));
-      repeats = λ repeats.
-          sym (over-body n m n (c.in_ok-told.ensures.repeats repeats) ∙ (λ i. over (c.self.view_is i) (c.part.view_is i))) ∙ c.self.view_is;
+      repeats = λ repeats order.
+          sym (λ i. over (c.self.view_is i) (c.part.view_is i))
+          ∙ repeated-body n m (c.in_ok-told.ensures.repeats repeats) (subst₂ KeepsItemOrder (sym c.self.view_is) (sym c.part.view_is) order) ∙ c.self.view_is;
     }
