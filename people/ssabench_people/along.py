@@ -1,15 +1,17 @@
 """A walk along the elements of a path: through the schema's places, the value there, and the path on the bench."""
 from .documents import compact
-from .elements import bench_first, key_text, named_keys, read, value_text
+from .elements import bench_first, key_text, named_keys, read, value_text, way_of_name
 from .places import OTHERS
 
 
 class Along:
     """A place along the way, `value` being what stands there. Begins at the root of an object."""
 
-    def __init__(self, place, value, path=(), way="", schema_way="", is_whole=False):
+    def __init__(self, place, value, path=(), way="", schema_way="", is_whole=False, own_text=None):
         self.place = place
         self.value = value
+        self.texts = ()  # the path as servers write it
+        self.own_text = own_text  # the last element of it, where it isn't the one that was asked for
         self.path = path  # on the bench; None at metadata, whose members stand in two fields of the root
         self.way = way  # as people read it
         self.schema_way = schema_way  # the same with `[]` for any item and `.*` for any entry
@@ -31,12 +33,23 @@ class Along:
 
     def way_of(self, text):
         """The way to the place under an element, also where there is none."""
-        return self.way + (f".{text[2:]}" if text.startswith("f:") else f"[{text[2:]}]")
+        said = read(text)
+        if said is None:
+            return f"{self.way}[{text}]"
+        letter, named = said
+        if letter == "f":
+            return self.way + way_of_name(named)
+        parts = [f"{name}={compact(value)}" for name, value in named.items()] if letter == "k" else [f"={compact(named)}"]
+        return f"{self.way}[{','.join(parts)}]"
 
     def step(self, text):
         """The place under an element; None where the schema hasn't it, or it isn't there."""
-        if not self.knows(text):
-            return None
+        found = self._step(text) if self.knows(text) else None
+        if found is not None:
+            found.texts = (*self.texts, found.own_text or text)
+        return found
+
+    def _step(self, text):
         letter, said = read(text)
         if letter == "f":
             return self._field(said)
@@ -44,16 +57,17 @@ class Along:
             return None
         if letter == "v":
             there = any(compact(item) == compact(said) for item in self.value)
-            return self._below(said, value_text(self.place, said), text) if there else None
+            return self._below(said, value_text(self.place, said), "v:" + compact(said)) if there else None
         keys = {name: said.get(name, self.place.fill.get(name)) for name in self.place.keys}
         if any(value is None for value in keys.values()) or set(said) - set(keys):
             return None
         item = item_at(self.place, self.value, keys)
-        return None if item is None else self._below(item, key_text(self.place, keys), text)
+        return None if item is None else self._below(item, key_text(self.place, keys), "k:" + compact(keys))
 
     def _below(self, item, bench_text, text):
         whole = self.place.whole_items
-        return Along(self.place.item, item, (*self.path, bench_text), self.way_of(text), f"{self.schema_way}[]", whole)
+        path, way = (*self.path, bench_text), self.way_of(text)
+        return Along(self.place.item, item, path, way, f"{self.schema_way}[]", whole, text)
 
     def _field(self, name):
         if not isinstance(self.value, dict) or name not in self.value:
@@ -66,7 +80,7 @@ class Along:
         else:
             path = (*self.path, *(["f:" + OTHERS] if is_other else []), "f:" + name)
         named = name if not is_other and self.place.kind == "record" else "*"
-        return Along(place, self.value[name], path, f"{self.way}.{name}", f"{self.schema_way}.{named}")
+        return Along(place, self.value[name], path, self.way + way_of_name(name), f"{self.schema_way}.{named}")
 
     def all_paths(self):
         """The path of the place, and of each field of it that is there."""

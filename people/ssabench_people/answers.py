@@ -4,6 +4,7 @@ import json
 from .along import place_at, value_at
 from .documents import compact, to_yaml
 from .elements import told_paths
+from .fields import said_paths
 from .migration import client_side_appliers
 from .report import line
 from .turning import PART_BY_PART
@@ -51,6 +52,23 @@ def object_name(value):
     return f"{kind}{'.' if group else ''}{group}/{value['metadata']['name']}"
 
 
+def who(owner):
+    """A manager with its operation, and the part through which it acts where that is a subresource."""
+    part = f" through {owner['subresource']}" if owner.get("subresource") else ""
+    return f"{owner['manager']} ({owner['operation']}{part})"
+
+
+def owned_below(live, texts):
+    """Each entry that owns something below a path, with how many paths."""
+    found = []
+    for entry in live["metadata"].get("managedFields") or []:
+        paths = said_paths(entry["fieldsV1"])
+        count = sum(1 for path in paths if path[: len(texts)] == texts and len(path) > len(texts))
+        if count:
+            found.append((entry, count))
+    return found
+
+
 def counted(number, thing):
     return f"{number} {thing}{'' if number == 1 else 's'}"
 
@@ -85,9 +103,8 @@ def tell_conflicts(root, conflicts, live, manifest, applier):
     """A line for each field in conflict, with both values, and the ways out."""
     fields = [(conflict, *told) for conflict in conflicts for told in told_paths(root, conflict["fields"])]
     for conflict, texts, way in fields[:MOST_LINES]:
-        by = f"{conflict['manager']} ({conflict['operation']})"
         is_now, will_be = value_at(root, live, texts), value_at(root, manifest, texts)
-        line(f"conflict with {by}: {way} is {shown_value(is_now)}, configured as {shown_value(will_be)}")
+        line(f"conflict with {who(conflict)}: {way} is {shown_value(is_now)}, configured as {shown_value(will_be)}")
         if isinstance(is_now, dict) and isinstance(will_be, dict) and place_at(root, live, texts).kind == "json":
             line(f"{way} is {PART_BY_PART}: there only what differs in both can conflict")
     if len(fields) > MOST_LINES:

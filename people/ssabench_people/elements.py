@@ -80,7 +80,7 @@ def _real_element(place, text, is_entry):
     letter, said = read(text)
     if letter == "f":
         child = place if is_entry or place is None else place.child(said)[0]
-        return child, text, _way_of_name(said)
+        return child, text, way_of_name(said)
     if letter == "k":
         keys = {name: unboxed(place.item.fields[name], value) for name, value in said.items()} if place else said
         way = ",".join(f"{name}={compact(value)}" for name, value in keys.items())
@@ -89,7 +89,7 @@ def _real_element(place, text, is_entry):
     return place and place.item, "v:" + compact(value), f"[={compact(value)}]"
 
 
-def _way_of_name(name):
+def way_of_name(name):
     return f".{name}" if PLAIN_NAME.match(name) else f"[{compact(name)}]"
 
 

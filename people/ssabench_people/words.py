@@ -5,10 +5,10 @@ import os
 import sys
 
 from . import engine
-from .answers import counted, object_name, print_change, print_json, print_object, tell_conflicts, tell_refusal, turned_reply
-from .bench import Bench, make, places_name, with_file
-from .documents import read_documents
-from .elements import told_paths
+from .answers import counted, object_name, owned_below, print_change, print_json, print_object, tell_conflicts, tell_refusal
+from .answers import turned_reply, who
+from .bench import Bench, make, with_file
+from .documents import compact, read_documents
 from .migration import migrated
 from .objects import as_taken, from_bench_object, identity, tell_kept, to_bench_object, without_repeats
 from .ownership import Turning, shown_entry
@@ -16,6 +16,7 @@ from .places import root_of
 from .refusal import Refusal
 from .report import Report, line
 from .schemas import found
+from .ways import followed
 
 STATUSES = "statuses: 0 done; 1 refused, or something would be lost; 2 other words; 3 a file, or the proved program"
 
@@ -104,6 +105,8 @@ def do_command(args):
     bench = Bench(args.bench)
     live = live_object(bench)
     report = Report()
+    if args.subresource and not engine.takes_status():
+        raise Refusal("the proved program takes nothing through a subresource", 2)
     keeps_status = engine.takes_status() or not bench.written_apart
     for given in list(manifests(args, live, report)):
         value = as_taken(given, live, args.word == "update", keeps_status, report)
@@ -113,6 +116,8 @@ def do_command(args):
         report.tell(without=("text", "whole"))
         report = Report()
         words = ["--at", args.at or now(), "--field-manager", args.field_manager]
+        if args.subresource:
+            words += ["--subresource", args.subresource]
         if args.word == "apply" and args.force_conflicts:
             words.append("--force-conflicts")
         status, reply, lines = with_file(turned, lambda name: engine.called(args.word, args.bench, name, *words))
@@ -156,6 +161,24 @@ def do_show(args):
     return 0
 
 
+def do_owners(args):
+    bench = Bench(args.bench)
+    live = live_object(bench)
+    here = followed(bench.root, live, args.path)
+    owners = [] if here.is_nobodys else engine.asked("owners", args.bench, compact(here.path))["owners"]
+    if args.output == "json":
+        print_json({"done": "owners", "owners": owners})
+        return 0
+    for owner in owners:
+        print(who(owner))
+    below = owned_below(live, here.texts)
+    for owner, count in below:
+        print(f"{who(owner)}: {counted(count, 'field')} below")
+    if not owners and not below:
+        print("nobody")
+    return 0
+
+
 def do_log(args):
     Bench(args.bench)
     reply = engine.asked("log", args.bench)
@@ -165,6 +188,7 @@ def do_log(args):
     for part, mark in (("past", ""), ("future", " (undone)")):
         for label in reply[part]:
             by = f" by {label['manager']}" if "manager" in label else ""
+            by += f" through {label['subresource']}" if "subresource" in label else ""
             forced = ", by force" if label.get("force") else ""
             print(f"{label.get('at', '')} {label['do']}{by}{forced}{mark}".lstrip())
     return 0
@@ -181,6 +205,7 @@ def _file_word(words, name, told, field_manager):
     word = _bench_word(words, name, told, do_command)
     word.add_argument("-f", "--filename", dest="file", required=True, metavar="FILE", help="the manifest, in YAML or JSON; - is standard input")
     word.add_argument("--field-manager", default=field_manager, metavar="NAME", help=f"who does it ({field_manager})")
+    word.add_argument("--subresource", choices=("status",), help="through which part it is done, where the program has it")
     word.add_argument("--at", metavar="MOMENT", help="the moment, as 2024-05-01T10:00:00Z; now, where none is given")
     word.add_argument("bench", metavar="BENCH")
     return word
@@ -213,6 +238,9 @@ def parser():
     word = _bench_word(words, "show", "the object", do_show, ("yaml", "json"))
     word.add_argument("--show-managed-fields", action="store_true", help="with its managers' entries")
     word.add_argument("bench", metavar="BENCH")
+    word = _bench_word(words, "owners", "who owns a field", do_owners)
+    word.add_argument("bench", metavar="BENCH")
+    word.add_argument("path", metavar="PATH", help="as .spec.containers[name=nginx].image")
     _bench_word(words, "log", "the commands of the history", do_log).add_argument("bench", metavar="BENCH")
     return top
 

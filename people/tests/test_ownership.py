@@ -109,7 +109,7 @@ class Entries(unittest.TestCase):
         self.assertEqual(self.report.losses, 0)
         self.assertEqual(self.fields({"f:ports": {'k:{"port":81}': {".": {}, "f:port": {}}}, "f:args": {}, "f:x": {}}), {"f:args": {}})
         self.assertEqual(self.report.total("path"), 3)
-        told = [("entry of m (Apply): .spec.ports[{\"port\":81}]", "is not there, left out")]
+        told = [("entry of m (Apply): .spec.ports[port=81]", "is not there, left out")]
         told.append(("entry of m (Apply): .spec.x", "is none of the schema, left out"))
         self.assertEqual(self.lines("path"), told)
 
