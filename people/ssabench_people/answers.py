@@ -69,10 +69,6 @@ def owned_below(live, texts):
     return found
 
 
-def counted(number, thing):
-    return f"{number} {thing}{'' if number == 1 else 's'}"
-
-
 def print_change(root, name, done, reply):
     """What a command changed, a line a field."""
     print(f"{name} {done}")

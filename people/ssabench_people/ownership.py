@@ -8,6 +8,7 @@ from .along import Along
 from .documents import compact
 from .elements import real_path
 from .fields import said_paths, written
+from .report import counted
 
 NO_TIME = "1970-01-01T00:00:00Z"  # stands for an entry's time where it has none
 MEMBERS = ("apiVersion", "fieldsType", "fieldsV1", "manager", "operation", "time")
@@ -48,14 +49,14 @@ class Turning:
         if not isinstance(entry, dict) or not isinstance(entry.get("fieldsV1"), dict):
             self.report.add(f"entry {compact(entry)[:60]}", "no entry of fields, left out", "entry")
             return None
-        name, count = entry_name(entry), len(said_paths(entry["fieldsV1"]))
+        name, count = entry_name(entry), counted(len(said_paths(entry["fieldsV1"])), "field")
         version, here = entry.get("apiVersion"), self.value["apiVersion"]
         part = entry.get("subresource") or ""
         if part and not (part == "status" and self.takes_status):
-            self.report.add(name, f"the bench has no such part: left out, {count} fields", "entry")
+            self.report.add(name, f"the bench has no such part: left out, {count}", "entry")
             return None
         if version != here and not self.same_schema:
-            self.report.add(f"{name} at {version}", f"left out, {count} fields; --same-schema takes it as of {here}", "entry")
+            self.report.add(f"{name} at {version}", f"left out, {count}; --same-schema takes it as of {here}", "entry")
             return None
         if version != here:
             self.report.add(f"{name} at {version}", f"taken as of {here}", "moved")

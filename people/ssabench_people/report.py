@@ -57,6 +57,11 @@ class Report:
             line(", ".join(parts), self.out)
 
 
+def counted(number, thing):
+    """A number of things, in words."""
+    return f"{number} {thing}{'' if number == 1 else 's'}"
+
+
 def line(text, out=None):
     """A line for people on standard error."""
     print(f"kubectl-ssabench: {text}", file=out or sys.stderr)

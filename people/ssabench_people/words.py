@@ -5,7 +5,7 @@ import os
 import sys
 
 from . import engine
-from .answers import counted, object_name, owned_below, print_change, print_json, print_object, tell_conflicts, tell_refusal
+from .answers import object_name, owned_below, print_change, print_json, print_object, tell_conflicts, tell_refusal
 from .answers import turned_reply, who
 from .bench import Bench, make, with_file
 from .documents import compact, read_documents
@@ -14,7 +14,7 @@ from .objects import as_taken, from_bench_object, identity, tell_kept, to_bench_
 from .ownership import Turning, shown_entry
 from .places import root_of
 from .refusal import Refusal
-from .report import Report, line
+from .report import Report, counted, line
 from .schemas import found
 from .ways import followed
 
