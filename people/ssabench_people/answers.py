@@ -19,6 +19,10 @@ SAID = {
     23: "an item that an earlier one equals",
     24: "more than 20,000 paths",
     40: "an owned path that is not there",
+    61: "a manifest has no managedFields",
+    63: "the history is full",
+    64: "nothing to undo",
+    65: "nothing to redo",
 }
 
 
@@ -77,16 +81,19 @@ def print_change(root, name, done, reply):
             print(f"  {part:<9}{way}")
 
 
+def said(reply):
+    """A refusal's name in words."""
+    return f"{SAID[reply['fault']]} ({reply['name']})" if reply["fault"] in SAID else reply["name"]
+
+
 def tell_refusal(root, name, reply, lines):
     """Where and why the proved program refused a file."""
     if reply is None or "path" not in reply:
-        for told in lines:
-            line(told)
-        if reply is not None and not lines:
-            line(f"{name}: {SAID.get(reply['fault'], reply['name'])}")
+        for told in lines or ([said(reply)] if reply else []):
+            line(f"{name}: {told}" if not lines else told)
         return
     way = next((way for _, way in told_paths(root, [reply["path"]])), "")
-    line(f"{name}: {way or 'the whole'}: {SAID.get(reply['fault'], reply['name'])} ({reply['name']})")
+    line(f"{name}: {way or 'the whole'}: {said(reply)}")
 
 
 def shown_value(value):

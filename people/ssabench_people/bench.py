@@ -1,14 +1,16 @@
 """A bench: its file, and the file of its places beside it.
 
-`NAME.places.json` holds what the bench's file doesn't: the kind and version of its schema, what each place of the schema is, what
-a server keeps of its own in metadata, and whether the kind's status is written elsewhere.
+`NAME.places.json` holds what the bench's file doesn't: what each place of the schema is, what a server keeps of its own in
+metadata, whether the kind's status is written elsewhere, and the digest of the bench's schema, by which the two are one's.
 """
+import hashlib
 import json
 import os
 import shutil
 import tempfile
 
 from . import engine, places
+from .documents import compact
 from .refusal import Refusal
 
 FORMAT = 1
@@ -30,45 +32,67 @@ class Bench:
                 raise Refusal(f"{places_name(name)}: format {told['format']} is not this program's", 3)
             self.kept, self.written_apart = told["kept"], told["statusApart"]
             self.root = places.from_json(told["places"])
+            schema = told["schema"]
         except OSError as fault:
             raise Refusal(f"cannot read {places_name(name)}: a bench is made by the word open", 3) from fault
         except (ValueError, KeyError, TypeError) as fault:
             raise Refusal(f"{places_name(name)}: not what the word open writes", 3) from fault
+        if _schema_of(name) not in (None, schema):
+            raise Refusal(f"{places_name(name)} is another bench's: {name} has another schema", 3)
 
     def shown(self):
         """The object as it stands on the bench, its managers' entries in its metadata."""
         return engine.asked("show", self.name, "--show-managed-fields")["object"]
 
 
-def make(name, root, value, kept, status_apart):
-    """Makes a bench of an object of the bench. Gives the status, the reply and the lines of the proved program; neither file is
-    touched where it refuses."""
+def _schema_of(name):
+    """The digest of the schema that stands in a bench's file; None where none can be read, which the proved program tells."""
+    try:
+        with open(name, "rb") as file:
+            file.readline()
+            return _digest(file.readline().rstrip(b"\n"))
+    except OSError:
+        return None
+
+
+def _digest(text):
+    return hashlib.sha256(text).hexdigest()
+
+
+def make(name, root, value, kept, status_apart, source="the object"):
+    """Makes a bench of an object of the bench, which came from `source`. Gives the status, the reply and the lines of the proved
+    program; neither file is touched where it refuses."""
     folder = os.path.dirname(os.path.abspath(name))
+    schema = places.engine_root(root)
     told = {"format": FORMAT, "kept": kept, "statusApart": status_apart, "places": places.to_json(root)}
+    told["schema"] = _digest(compact(schema).encode("utf-8"))
     try:
         made = tempfile.mkdtemp(prefix=".ssabench-", dir=folder)
     except OSError as fault:
         raise Refusal(f"cannot write {name}", 3) from fault
     try:
         paths = {part: os.path.join(made, part) for part in ("schema.json", "object.json", "bench", "places.json")}
-        for part, content in (("schema.json", places.engine_root(root)), ("object.json", value), ("places.json", told)):
+        for part, content in (("schema.json", schema), ("object.json", value), ("places.json", told)):
             with open(paths[part], "w", encoding="utf-8") as file:
                 json.dump(content, file, ensure_ascii=False, sort_keys=True)
-        answer = engine.called("init", paths["schema.json"], paths["object.json"], paths["bench"])
-        if answer[0] == 0:
+        status, reply, lines = engine.called("init", paths["schema.json"], paths["object.json"], paths["bench"])
+        if status == 0:
             os.replace(paths["places.json"], places_name(name))
             os.replace(paths["bench"], name)
-        return answer
+        named = [line.replace(paths["object.json"], source).replace(paths["schema.json"], "the schema") for line in lines]
+        return status, reply, named
     except OSError as fault:
         raise Refusal(f"cannot write {name}", 3) from fault
     finally:
         shutil.rmtree(made, ignore_errors=True)
 
 
-def with_file(value, call):
-    """Calls `call` with the name of a file that holds the value."""
+def with_file(value, source, call):
+    """What `call` gives, the status, the reply and the lines of the proved program, with the name of a file that holds the value,
+    which came from `source`."""
     with tempfile.TemporaryDirectory(prefix="ssabench-") as folder:
         path = os.path.join(folder, "manifest.json")
         with open(path, "w", encoding="utf-8") as file:
             json.dump(value, file, ensure_ascii=False)
-        return call(path)
+        status, reply, lines = call(path)
+        return status, reply, [line.replace(path, source) for line in lines]

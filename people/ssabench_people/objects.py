@@ -75,7 +75,7 @@ def as_taken(value, live, replaces, keeps_status, report):
         else:
             metadata[name] = part
     given = {**value, "metadata": metadata}
-    if keeps_status:
+    if keeps_status or replaces and given.get("status") == live.get("status"):
         return given
     if given.pop("status", None) is not None:
         report.add(".status", "written through the subresource, left out", "value")

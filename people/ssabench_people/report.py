@@ -25,8 +25,9 @@ LOSSES = ("path", "entry", "value")
 class Report:
     """The lines of one word, in the order in which they came up, equal ones once with their number."""
 
-    def __init__(self, out=None):
+    def __init__(self, out=None, leaves_out=False):
         self.out = out or sys.stderr
+        self.leaves_out = leaves_out  # whether what the schema hasn't is left out, and not for the proved program to refuse
         self.lines = {}  # (way, what) -> [count, how often]
 
     def add(self, way, what, count, often=1):

@@ -12,12 +12,15 @@ ABSENT = object()
 
 
 def to_bench(place, value, way, report):
-    """What stands on the bench for a value; ABSENT for a null."""
+    """What stands on the bench for a value; ABSENT for a null, and for what the schema hasn't where such values are left out."""
     if value is None and not (place and place.kind == "json" and place.why == OPEN):
         report.add(way, "null, taken as absent", "null")
         return ABSENT
     if place is None:
-        return value
+        if not report.leaves_out:
+            return value
+        report.add(way, "none of the schema, left out", "value")
+        return ABSENT
     if place.kind == "json":
         _tell_text(place, value, way, report)
         return compact(value)

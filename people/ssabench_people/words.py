@@ -47,7 +47,7 @@ def wanted_schema(args, value, report):
 def do_open(args):
     if os.path.exists(args.bench) and not args.force:
         raise Refusal(f"{args.bench} is there; --force replaces it, with its history")
-    report = Report()
+    report = Report(leaves_out=True)
     value = the_object(read_documents(args.file), args.file, args.kind)
     schemas = [document for name in args.schema for document in read_documents(name)]
     schema = found(schemas, ", ".join(args.schema), wanted_schema(args, value, report))
@@ -65,7 +65,7 @@ def do_open(args):
     if report.losses and not args.drop:
         line("no bench was made: --drop makes it without what is left out")
         return 1
-    status, reply, lines = make(args.bench, root, turned, kept, schema.has_status)
+    status, reply, lines = make(args.bench, root, turned, kept, schema.has_status, args.file)
     if status != 0:
         tell_refusal(root, args.file, reply, lines)
         return status
@@ -111,7 +111,7 @@ def do_command(args):
     for given in list(manifests(args, live, report)):
         value = as_taken(given, live, args.word == "update", keeps_status, report)
         turned, _ = to_bench_object(bench.root, value, report)
-        if value["metadata"].get("managedFields"):
+        if value["metadata"].get("managedFields") is not None:
             turned["metadata"]["managedFields"] = value["metadata"]["managedFields"]
         report.tell(without=("text", "whole"))
         report = Report()
@@ -120,7 +120,7 @@ def do_command(args):
             words += ["--subresource", args.subresource]
         if args.word == "apply" and args.force_conflicts:
             words.append("--force-conflicts")
-        status, reply, lines = with_file(turned, lambda name: engine.called(args.word, args.bench, name, *words))
+        status, reply, lines = with_file(turned, args.file, lambda name: engine.called(args.word, args.bench, name, *words))
         if args.output == "json" and reply is not None:
             print_json(turned_reply(bench.root, reply))
         if status != 0:
@@ -143,7 +143,10 @@ def _tell_refused_command(root, args, reply, lines, live, value):
 def do_plain(args):
     """Strip, undo and redo."""
     bench = Bench(args.bench)
-    reply = engine.asked(args.word, args.bench)
+    status, reply, lines = engine.called(args.word, args.bench)
+    if status != 0:
+        tell_refusal(bench.root, args.bench, reply, lines)
+        return status
     if args.output == "json":
         print_json(turned_reply(bench.root, reply))
     elif args.word == "strip":
