@@ -48,19 +48,24 @@ def root():
 
 def _apt(place, *words, cwd=None):
     environment = {**os.environ, "APT_CONFIG": os.path.join(place, "apt.conf")} if place else os.environ
-    subprocess.run(["apt-get", "-q", *words], cwd=cwd, env=environment, check=True, timeout=120, stdout=subprocess.DEVNULL, stderr=subprocess.DEVNULL)
+    ran = subprocess.run(
+        ["apt-get", "-q", *words], cwd=cwd, env=environment, check=True, timeout=300, stdout=subprocess.PIPE, stderr=subprocess.DEVNULL, text=True
+    )
+    return ran.stdout
 
 
-def _fetch(target):
-    """Downloads the packages, by the machine's own lists, else by lists of a later suite kept apart, and unpacks them."""
+def _fetch(target, names=NAMES, with_needed=()):
+    """Downloads packages, by the machine's own lists, else by lists of a later suite kept apart, and unpacks them. Of
+    `with_needed` the Go packages that they stand on come along."""
     os.makedirs(target, exist_ok=True)
     with tempfile.TemporaryDirectory(prefix="ssabench-apt-") as place:
         for suite in (None, *SUITES):
+            lists = place if suite else None
             try:
                 if suite:
                     _other_lists(place, suite)
                     _apt(place, "update")
-                _apt(place if suite else None, "download", *NAMES, cwd=target)
+                _apt(lists, "download", *names, *_needed(place, lists, with_needed), cwd=target)
                 break
             except subprocess.SubprocessError as fault:
                 last = fault
@@ -70,6 +75,22 @@ def _fetch(target):
         if name.endswith(".deb"):
             subprocess.run(["dpkg-deb", "-x", name, "."], cwd=target, check=True)
             os.remove(os.path.join(target, name))
+
+
+def _needed(place, lists, names):
+    """The Go packages that would be installed with these on a machine that has none."""
+    if not names:
+        return []
+    nothing = os.path.join(place, "status")
+    open(nothing, "w", encoding="utf-8").close()
+    told = _apt(lists, "-o", f"Dir::State::status={nothing}", "--no-install-recommends", "-s", "install", *names)
+    there = [line.split()[1] for line in told.splitlines() if line.startswith("Inst ")]
+    return [name for name in there if name.startswith("golang-") and name.endswith("-dev")]
+
+
+def with_needed(target, names, more=()):
+    """Packages with the Go packages that they stand on, and some more without, unpacked in a folder."""
+    _fetch(target, more, names)
 
 
 def _other_lists(place, suite):

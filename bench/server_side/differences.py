@@ -1,0 +1,121 @@
+"""Where two answers differ, and why: of objects and of managers' tables."""
+import json
+
+from ssabench_people.fields import said_paths
+from ssabench_people.migration import ANNOTATION
+
+FIRST = "before-first-apply"
+CLIENT_SIDE = "kubectl-client-side-apply"
+
+
+def text(value):
+    return json.dumps(value, sort_keys=True)
+
+
+def body(value):
+    """An object without its managers."""
+    metadata = {name: part for name, part in value["metadata"].items() if name != "managedFields"}
+    return {**value, "metadata": metadata}
+
+
+def sorted_lists(value):
+    if isinstance(value, dict):
+        return {name: sorted_lists(part) for name, part in value.items()}
+    return sorted((sorted_lists(item) for item in value), key=text) if isinstance(value, list) else value
+
+
+def without_empty(value):
+    """The value without objects and lists that have nothing in them, which a server may leave as nulls."""
+    if isinstance(value, dict):
+        kept = {name: without_empty(part) for name, part in value.items()}
+        return {name: part for name, part in kept.items() if part not in ({}, [], None)}
+    return [without_empty(item) for item in value] if isinstance(value, list) else value
+
+
+def object_reason(server, bench, before):
+    """Why the objects differ; None where they are equal. `before` is the bench's object before the command."""
+    server, bench = body(server), body(bench)
+    if text(server) == text(bench):
+        return None
+    if text({**server, "metadata": {}}) == text({**bench, "metadata": {}}) and ANNOTATION in text(server):
+        return "client-side apply: the annotation goes with kubectl's applies"
+    if text(sorted_lists(server)) == text(sorted_lists(bench)):
+        return "order of lists"
+    if text(sorted_lists(without_empty(server))) == text(sorted_lists(without_empty(bench))):
+        return "emptied containers"
+    its, mine = ways_values(without_empty(server)), ways_values(without_empty(bench))
+    kept = mine.keys() - its.keys()
+    if its.keys() - mine.keys() or any(mine[path] != its[path] for path in its):
+        return "another object"
+    updated = {way for entry in entries(before).values() if entry["operation"] == "Update" for way in owned(entry)}
+    if any(path in updated for path in kept):
+        return "an item in which an Update owns something stays"
+    return "fields that nobody owns stay"
+
+
+def ways_values(value, path=()):
+    """The leaves of a value by their paths: fields by name, items by their key."""
+    if isinstance(value, dict) and value:
+        return {way: leaf for name, part in value.items() for way, leaf in ways_values(part, (*path, f"f:{name}")).items()}
+    if isinstance(value, list) and value and all(isinstance(item, dict) and ("name" in item or "port" in item) for item in value):
+        found = {}
+        for item in value:
+            key = "name" if "name" in item else "port"
+            found |= ways_values(item, (*path, "k:" + json.dumps({key: item[key]}, separators=(",", ":"))))
+        return found
+    return {path: text(value)}
+
+
+def entries(value):
+    return {(entry["manager"], entry["operation"]): entry for entry in value["metadata"].get("managedFields") or []}
+
+
+def owned(entry):
+    return set(said_paths(entry["fieldsV1"]))
+
+
+def at(value, path):
+    """What stands at a path; None where nothing does."""
+    for part in path:
+        if part[0] == "f":
+            value = value.get(part[2:]) if isinstance(value, dict) else None
+        elif part[0] == "k":
+            keys = json.loads(part[2:])
+            items = value if isinstance(value, list) else []
+            value = next((item for item in items if all(item.get(name) == keys[name] for name in keys)), None)
+        else:
+            value = json.loads(part[2:]) if isinstance(value, list) and json.loads(part[2:]) in value else None
+        if value is None:
+            return None
+    return value
+
+
+def verdict_reason(their_conflicts, our_conflicts):
+    """Why one has conflicts and the other hasn't."""
+    if their_conflicts and {manager for manager, _ in their_conflicts} == {FIRST}:
+        return FIRST
+    if our_conflicts and {manager for manager, _ in our_conflicts} == {CLIENT_SIDE}:
+        return "client-side apply"
+    return "another verdict"
+
+
+def table_reasons(server, bench):
+    """Why the managers' sets differ: the reasons, none where they are equal."""
+    ours, theirs, reasons = entries(bench), entries(server), set()
+    updated = {path for key, entry in theirs.items() if key[1] == "Update" for path in owned(entry)}
+    for key in ours.keys() | theirs.keys():
+        if key[0] == FIRST:
+            reasons.add(FIRST)
+            continue
+        mine = owned(ours[key]) if key in ours else set()
+        its = owned(theirs[key]) if key in theirs else set()
+        for path in its - mine:
+            branch = isinstance(at(server, path), (dict, list))
+            reasons.add("an Update owns the branches that it made" if branch and key[1] == "Update" else "another set")
+        for path in mine - its:
+            if path in updated and isinstance(at(server, path), (dict, list)):
+                reasons.add("an Update owns the branches that it made")
+            else:
+                is_list = isinstance(at(bench, path), list) and key[1] == "Apply"
+                reasons.add("an applied empty list is owned" if is_list else "another set")
+    return reasons
