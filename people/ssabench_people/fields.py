@@ -2,8 +2,15 @@
 the place itself is in the set."""
 
 
+def is_set(fields):
+    """Whether a value has the shape of a set: objects all the way down, that of `.` being empty."""
+    return isinstance(fields, dict) and all(
+        below == {} if text == "." else is_set(below) for text, below in fields.items()
+    )
+
+
 def said_paths(fields):
-    """The paths of a set, as tuples of element texts."""
+    """The paths of a set, as tuples of element texts; none where it has not the shape of one."""
     found = []
 
     def walk(node, path):
@@ -15,7 +22,7 @@ def said_paths(fields):
             else:
                 walk(below, (*path, text))
 
-    if isinstance(fields, dict):
+    if is_set(fields):
         walk(fields, ())
     return found
 
@@ -36,10 +43,3 @@ def _short(node):
     if not below:
         return {}
     return below | ({".": {}} if "." in node else {})
-
-
-def points_below(value_paths):
-    """The paths of a set that have none of it below them."""
-    paths = set(value_paths)
-    above = {path[:cut] for path in paths for cut in range(len(path))}
-    return paths - above

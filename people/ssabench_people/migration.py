@@ -14,7 +14,7 @@ def client_side_appliers(entries):
     """The names of the managers that wrote by client-side apply, in the order of their entries."""
     names = []
     for entry in entries:
-        if entry.get("operation") == "Update" and ANNOTATION_PATH in said_paths(entry.get("fieldsV1")):
+        if isinstance(entry, dict) and entry.get("operation") == "Update" and ANNOTATION_PATH in said_paths(entry.get("fieldsV1")):
             if entry.get("manager") not in names:
                 names.append(entry.get("manager"))
     return names
@@ -29,7 +29,7 @@ def migrated(entries, applier, report):
 
 
 def _is(entry, manager, operation):
-    return entry.get("manager") == manager and entry.get("operation") == operation and not entry.get("subresource")
+    return isinstance(entry, dict) and entry.get("manager") == manager and entry.get("operation") == operation and not entry.get("subresource")
 
 
 def _first(entries, fits):
@@ -37,7 +37,7 @@ def _first(entries, fits):
 
 
 def _one_migrated(entries, name, applier):
-    entries = [dict(entry) for entry in entries]
+    entries = [dict(entry) if isinstance(entry, dict) else entry for entry in entries]
     place = _first(entries, lambda entry: _is(entry, applier, "Apply"))
     if place is None:
         place = _first(entries, lambda entry: _is(entry, name, "Update"))

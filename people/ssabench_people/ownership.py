@@ -7,7 +7,7 @@ but for a path whose value is a null.
 from .along import Along
 from .documents import compact
 from .elements import real_path
-from .fields import said_paths, written
+from .fields import is_set, said_paths, written
 from .report import counted
 
 NO_TIME = "1970-01-01T00:00:00Z"  # stands for an entry's time where it has none
@@ -46,7 +46,7 @@ class Turning:
 
     def entry(self, entry):
         """The bench's entry for one of a server's; None where it is left out."""
-        if not isinstance(entry, dict) or not isinstance(entry.get("fieldsV1"), dict):
+        if not _is_entry(entry):
             self.report.add(f"entry {compact(entry)[:60]}", "no entry of fields, left out", "entry")
             return None
         name, count = entry_name(entry), counted(len(said_paths(entry["fieldsV1"])), "field")
@@ -67,7 +67,7 @@ class Turning:
             self.report.add(name, "owns nothing that stands on the bench, left out", "entry")
             return None
         turned = {member: entry.get(member, "") for member in MEMBERS} | {"apiVersion": here, "fieldsV1": written(paths)}
-        turned["fieldsType"] = entry.get("fieldsType", "FieldsV1")
+        turned["fieldsType"] = entry.get("fieldsType") or "FieldsV1"
         turned["time"] = entry.get("time") or NO_TIME
         return turned | ({"subresource": part} if part else {})
 
@@ -112,6 +112,17 @@ class Turning:
         count = max(1, len(said_paths(below))) if isinstance(below, dict) else 1
         absent = "is not there" if here.knows(text) else "is none of the schema"
         self.report.add(f"{name}: {here.way_of(text)}", f"{absent}, left out", "path", count)
+
+
+def _is_entry(entry):
+    """Whether a value has the shape of an entry, of which only the time, the fields' type and the part may be missing."""
+    return (
+        isinstance(entry, dict)
+        and is_set(entry.get("fieldsV1"))
+        and entry.get("operation") in ("Apply", "Update")
+        and all(isinstance(entry.get(name), str) for name in ("manager", "apiVersion"))
+        and all(isinstance(entry.get(name) or "", str) for name in ("time", "fieldsType", "subresource"))
+    )
 
 
 def shown_entry(root, entry):

@@ -8,6 +8,7 @@ field of the root, METADATA. Both names are no field's in any API.
 from dataclasses import dataclass, field
 
 from .refusal import Refusal
+from .schemas import part
 
 OTHERS = "(others)"
 METADATA = "(metadata)"
@@ -113,7 +114,7 @@ class _Reader:
 
     def object_place(self, node, level, seen, inside, skipped=()):
         whole = inside or node.get("x-kubernetes-map-type") == "atomic"
-        given = node.get("properties") or {}
+        given = part(node, "properties", dict, {})
         fields = {
             name: self.place(child, level + 1, seen, whole) for name, child in given.items() if name not in skipped
         }
@@ -138,7 +139,8 @@ class _Reader:
 
     def list_place(self, node, level, seen, inside):
         merged, keys = ("atomic", []) if inside else _list_type(node)
-        item = self.place(node.get("items") or {}, level + 1, seen, merged == "atomic")
+        items = part(node, "items", dict, {})
+        item = self.place(items, level + 1, seen, merged == "atomic")
         if merged == "set":
             return Place("set", item=item if item.kind in SCALARS else Place("json", NO_SCALAR))
         if merged == "map" and self.has_keys(item, keys):
@@ -147,7 +149,7 @@ class _Reader:
                 item.whole = False
             return place
         if merged == "map":
-            item = self.place(node.get("items") or {}, level + 1, seen, True)
+            item = self.place(items, level + 1, seen, True)
         return Place("atomic", item=item)
 
     def has_keys(self, item, keys):
@@ -156,10 +158,11 @@ class _Reader:
         )
 
     def defaults(self, node, keys):
-        items, _ = self.schema.open_node(node.get("items") or {})
-        given = items.get("properties") or {}
+        items, _ = self.schema.open_node(part(node, "items", dict, {}))
+        given = part(items, "properties", dict, {})
         nodes = {name: self.schema.open_node(given[name])[0] for name in keys if name in given}
-        return {name: child["default"] for name, child in nodes.items() if child.get("default") is not None}
+        found = {name: child.get("default") for name, child in nodes.items() if isinstance(child, dict)}
+        return {name: value for name, value in found.items() if value is not None and not isinstance(value, (dict, list))}
 
 
 def _type(node):
@@ -167,6 +170,8 @@ def _type(node):
     if isinstance(kind, list):
         named = [name for name in kind if name != "null"]
         kind = named[0] if len(named) == 1 else None
+    if kind is not None and not isinstance(kind, str):
+        raise Refusal("the schema: type is no text")
     if kind is None and "properties" in node:
         return "object"
     if kind is None and "items" in node:
@@ -180,11 +185,11 @@ def _list_type(node):
     if given in ("atomic", "set"):
         return given, []
     if given == "map":
-        return "map", list(node.get("x-kubernetes-list-map-keys") or [])
+        return "map", [str(key) for key in part(node, "x-kubernetes-list-map-keys", list, [])]
     strategy = str(node.get("x-kubernetes-patch-strategy", "")).split(",")
     if given is None and "merge" in strategy:
         key = node.get("x-kubernetes-patch-merge-key")
-        return ("map", [key]) if key else ("set", [])
+        return ("map", [str(key)]) if key else ("set", [])
     return "atomic", []
 
 

@@ -7,6 +7,19 @@ from dataclasses import dataclass, field
 from .refusal import Refusal
 
 
+KINDS = {dict: "object", list: "list", str: "text"}
+
+
+def part(node, name, kind, default):
+    """A part of a schema that has to be of a kind where it is there."""
+    value = node.get(name)
+    if value is None:
+        return default
+    if not isinstance(value, kind):
+        raise Refusal(f"the schema: {name} is no {KINDS[kind]}")
+    return value
+
+
 @dataclass
 class KindSchema:
     """The schema of one version of a kind, with the definitions that it refers to."""
@@ -30,7 +43,7 @@ class KindSchema:
             beside = {name: value for name, value in node.items() if name not in ("$ref", "allOf")}
             if "$ref" in node:
                 name = str(node["$ref"]).rsplit("/", 1)[-1]
-                if name not in self.definitions:
+                if not isinstance(self.definitions.get(name), dict):
                     raise Refusal(f"the schema has no {node['$ref']}")
                 if name in names:
                     raise Refusal(f"the schema's {node['$ref']} refers to itself")
@@ -81,32 +94,35 @@ def _chosen(found_here, name, wanted):
 
 
 def _of_definition(document):
-    spec = document.get("spec") or {}
-    group = spec.get("group", "")
-    kind = (spec.get("names") or {}).get("kind")
+    spec = part(document, "spec", dict, {})
+    group, kind = part(spec, "group", str, ""), part(part(spec, "names", dict, {}), "kind", str, None)
     if kind is None:
-        kind = document.get("metadata", {}).get("name", "").split(".")[0]
-    versions = spec.get("versions") or [{"name": spec.get("version")}]
-    for version in versions:
-        schema = version.get("schema") or spec.get("validation") or {}
-        root = schema.get("openAPIV3Schema")
-        if not isinstance(root, dict):
-            root = {"type": "object", "x-kubernetes-preserve-unknown-fields": True}
-        has_status = "status" in (version.get("subresources") or spec.get("subresources") or {})
-        yield KindSchema(group, version.get("name"), kind, root, {}, has_status, spec.get("preserveUnknownFields") is True)
+        raise Refusal("the definition has no spec.names.kind")
+    for version in part(spec, "versions", list, [{"name": spec.get("version")}]):
+        if not isinstance(version, dict):
+            raise Refusal("the definition: a version is no object")
+        schema = part(version, "schema", dict, part(spec, "validation", dict, {}))
+        root = part(schema, "openAPIV3Schema", dict, {"type": "object", "x-kubernetes-preserve-unknown-fields": True})
+        has_status = "status" in part(version, "subresources", dict, part(spec, "subresources", dict, {}))
+        name, is_open = part(version, "name", str, None), spec.get("preserveUnknownFields") is True
+        yield KindSchema(group, name, kind, root, {}, has_status, is_open)
 
 
 def _of_openapi(document):
-    definitions = (document.get("components") or {}).get("schemas") or document.get("definitions") or {}
-    paths = document.get("paths")
+    components = part(document, "components", dict, {})
+    definitions = part(components, "schemas", dict, part(document, "definitions", dict, {}))
+    paths = part(document, "paths", dict, {})
     for node in definitions.values():
         if not isinstance(node, dict):
             continue
-        for names in node.get("x-kubernetes-group-version-kind") or []:
-            has_status = "status" in (node.get("properties") or {})
+        for names in part(node, "x-kubernetes-group-version-kind", list, []):
+            if not isinstance(names, dict):
+                continue
+            has_status = "status" in part(node, "properties", dict, {})
             if paths and has_status:
                 has_status = _has_status_path(paths, names)
-            yield KindSchema(names.get("group", ""), names.get("version"), names.get("kind"), node, definitions, has_status)
+            named = (part(names, "group", str, ""), part(names, "version", str, None), part(names, "kind", str, None))
+            yield KindSchema(*named, node, definitions, has_status)
 
 
 def _has_status_path(paths, names):

@@ -57,6 +57,8 @@ def do_open(args):
     turned, kept = to_bench_object(root, value, report)
     tell_kept(kept, report)
     entries = value["metadata"].get("managedFields") or []
+    if not isinstance(entries, list):
+        raise Refusal(f"{args.file}: .metadata.managedFields is no list")
     if args.migrate:
         entries = migrated(entries, args.field_manager, report)
     turning = Turning(root, value, report, engine.takes_status(), args.same_schema)

@@ -36,7 +36,7 @@ def root():
     for there in (folder(), "/"):
         if os.path.isdir(os.path.join(there, PROBE)):
             return there
-    sentence = "not tried: " + ", ".join(NAMES) + " can't be had by apt-get download"
+    sentence = "real kinds were not tried: " + ", ".join(NAMES) + " can't be had by apt-get download"
     if os.environ.get("SSABENCH_NO_PACKAGES"):
         raise NotHere(sentence + " (SSABENCH_NO_PACKAGES is set)")
     try:

@@ -51,11 +51,15 @@ def without_nulls(value):
 class Measured(unittest.TestCase):
     maxDiff = None
 
-    def setUp(self):
+    @classmethod
+    def setUpClass(cls):
         try:
             packages.root()
         except packages.NotHere as fault:
-            self.skipTest(str(fault))
+            print(f"\n{fault}", file=sys.__stderr__)
+            raise unittest.SkipTest(str(fault)) from fault
+
+    def setUp(self):
         folder = tempfile.TemporaryDirectory(prefix="ssabench-measured-")
         self.addCleanup(folder.cleanup)
         self.name = os.path.join(folder.name, "bench")
@@ -139,7 +143,8 @@ class Measured(unittest.TestCase):
 
     def test_manifests_that_kubectl_writes(self):
         if shutil.which("kubectl") is None:
-            self.skipTest("not tried: kubectl is not on the path")
+            print("\nnot tried: manifests of kubectl, which is not on the path", file=sys.__stderr__)
+            self.skipTest("kubectl is not on the path")
         documents = [document for path in real_kinds.OPENAPI for document in real_kinds.read(packages.gocode(path))]
         for words in MANIFESTS:
             with self.subTest(words=words):
