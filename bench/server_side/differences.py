@@ -34,7 +34,7 @@ def without_empty(value):
 
 def object_reason(server, bench, before):
     """Why the objects differ; None where they are equal. `before` is the bench's object before the command."""
-    server, bench = body(server), body(bench)
+    whole, server, bench = server, body(server), body(bench)
     if text(server) == text(bench):
         return None
     if text({**server, "metadata": {}}) == text({**bench, "metadata": {}}) and ANNOTATION in text(server):
@@ -44,6 +44,8 @@ def object_reason(server, bench, before):
     if text(sorted_lists(without_empty(server))) == text(sorted_lists(without_empty(bench))):
         return "emptied containers"
     its, mine = ways_values(without_empty(server)), ways_values(without_empty(bench))
+    if any(key[0] == FIRST for key in entries(whole)):
+        return FIRST
     kept = mine.keys() - its.keys()
     if its.keys() - mine.keys() or any(mine[path] != its[path] for path in its):
         return "another object"
@@ -102,7 +104,6 @@ def verdict_reason(their_conflicts, our_conflicts):
 def table_reasons(server, bench):
     """Why the managers' sets differ: the reasons, none where they are equal."""
     ours, theirs, reasons = entries(bench), entries(server), set()
-    updated = {path for key, entry in theirs.items() if key[1] == "Update" for path in owned(entry)}
     for key in ours.keys() | theirs.keys():
         if key[0] == FIRST:
             reasons.add(FIRST)
@@ -113,9 +114,9 @@ def table_reasons(server, bench):
             branch = isinstance(at(server, path), (dict, list))
             reasons.add("an Update owns the branches that it made" if branch and key[1] == "Update" else "another set")
         for path in mine - its:
-            if path in updated and isinstance(at(server, path), (dict, list)):
-                reasons.add("an Update owns the branches that it made")
+            there = at(bench, path)
+            if isinstance(there, list) and key[1] == "Apply":
+                reasons.add("an applied empty list is owned")
             else:
-                is_list = isinstance(at(bench, path), list) and key[1] == "Apply"
-                reasons.add("an applied empty list is owned" if is_list else "another set")
+                reasons.add("an empty map that others fill stays owned" if isinstance(there, dict) else "another set")
     return reasons

@@ -3,6 +3,8 @@
 `NAME.places.json` holds what the bench's file doesn't: what each place of the schema is, what a server keeps of its own in
 metadata, whether the kind's status is written elsewhere, and the digest of the bench's schema, by which the two are one's.
 """
+import contextlib
+import copy
 import hashlib
 import json
 import os
@@ -11,6 +13,8 @@ import tempfile
 
 from . import engine, places
 from .documents import compact
+from .objects import from_bench_object
+from .ownership import shown_entry
 from .refusal import Refusal
 
 FORMAT = 1
@@ -40,9 +44,25 @@ class Bench:
         if _schema_of(name) not in (None, schema):
             raise Refusal(f"{places_name(name)} is another bench's: {name} has another schema", 3)
 
-    def shown(self):
-        """The object as it stands on the bench, its managers' entries in its metadata."""
-        return engine.asked("show", self.name, "--show-managed-fields")["object"]
+    def live(self):
+        """The object, with its managers' entries, as a server shows them."""
+        value = engine.asked("show", self.name, "--show-managed-fields")["object"]
+        shown, entries = from_bench_object(self.root, value, self.kept)
+        if entries:
+            shown["metadata"]["managedFields"] = [shown_entry(self.root, entry) for entry in entries]
+        return shown
+
+    @contextlib.contextmanager
+    def copied(self):
+        """The same bench in a copy of its file, for what is to change nothing."""
+        with tempfile.TemporaryDirectory(prefix="ssabench-") as folder:
+            twin = copy.copy(self)
+            twin.name = os.path.join(folder, "bench")
+            try:
+                shutil.copyfile(self.name, twin.name)
+            except OSError as fault:
+                raise Refusal(f"cannot read {self.name}", 3) from fault
+            yield twin
 
 
 def _schema_of(name):

@@ -10,7 +10,7 @@ COUNTS = (  # the order of the last line, with its words for one and for more
     ("open", "of these owned as one, on a server part by part", "of these owned as one, on a server part by part"),
     ("whole", "list of items that a server takes whole", "lists of items that a server takes whole"),
     ("null", "null taken as absent", "nulls taken as absent"),
-    ("filled", "key filled in", "keys filled in"),
+    ("filled", "value filled in", "values filled in"),
     ("kept", "field of a server's own kept beside the bench", "fields of a server's own kept beside the bench"),
     ("coarse", "owned path that became the place above it", "owned paths that became the places above them"),
     ("moved", "entry changed", "entries changed"),

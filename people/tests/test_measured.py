@@ -18,8 +18,8 @@ import real_kinds
 from filled import Filler
 from ssabench_people import bench, schemas
 from ssabench_people.documents import compact, parse_documents
-from ssabench_people.objects import from_bench_object, to_bench_object
-from ssabench_people.ownership import Turning, shown_entry
+from ssabench_people.objects import to_bench_object
+from ssabench_people.ownership import Turning
 from ssabench_people.places import root_of
 from ssabench_people.report import Report
 
@@ -74,8 +74,8 @@ class Measured(unittest.TestCase):
         status, reply, lines = bench.make(self.name, root, turned, kept, schema.has_status)
         self.assertEqual(status, 0, (names, reply, lines))
         made = bench.Bench(self.name)
-        back, shown = from_bench_object(made.root, made.shown(), made.kept)
-        return back, [shown_entry(made.root, entry) for entry in shown or []], report
+        back = made.live()
+        return back, back["metadata"].pop("managedFields", []), report
 
     def same(self, value, back):
         metadata = {name: part for name, part in value["metadata"].items() if name != "managedFields"}
