@@ -89,7 +89,7 @@ class Stories:
             ours, our_conflicts = self.workbench.asked(do, given, manager, force)
             self.counts["commands"] += 1
             if (theirs is None) != (ours is None):
-                self.counts[f"verdict: {verdict_reason(their_conflicts, our_conflicts)}"] += 1
+                self.counts[f"verdict: {verdict_reason(their_conflicts, our_conflicts, before)}"] += 1
                 return
             self.counts["verdict: the same"] += 1
             if theirs is None:
@@ -99,10 +99,10 @@ class Stories:
             self.counts["done by both"] += 1
             reason = object_reason(theirs, ours, before)
             self.counts[f"object: {reason or 'equal'}"] += 1
-            for told in table_reasons(theirs, ours) or ["equal"]:
-                self.counts[f"managers: {told}"] += 1
             if reason and reason not in GOES_ON:
                 return
+            for told in table_reasons(theirs, ours) or ["equal"]:
+                self.counts[f"managers: {told}"] += 1
             live = theirs
 
     def command(self, live, by_kubectl):

@@ -4,6 +4,8 @@ import json
 from ssabench_people.fields import said_paths
 from ssabench_people.migration import ANNOTATION
 
+from sides import way
+
 FIRST = "before-first-apply"
 CLIENT_SIDE = "kubectl-client-side-apply"
 
@@ -37,7 +39,8 @@ def object_reason(server, bench, before):
     whole, server, bench = server, body(server), body(bench)
     if text(server) == text(bench):
         return None
-    if text({**server, "metadata": {}}) == text({**bench, "metadata": {}}) and ANNOTATION in text(server):
+    specs = [text(sorted_lists(without_empty({**one, "metadata": {}}))) for one in (server, bench)]
+    if specs[0] == specs[1] and ANNOTATION in text(server):
         return "client-side apply: the annotation goes with kubectl's applies"
     if text(sorted_lists(server)) == text(sorted_lists(bench)):
         return "order of lists"
@@ -49,7 +52,7 @@ def object_reason(server, bench, before):
     kept = mine.keys() - its.keys()
     if its.keys() - mine.keys() or any(mine[path] != its[path] for path in its):
         return "another object"
-    updated = {way for entry in entries(before).values() if entry["operation"] == "Update" for way in owned(entry)}
+    updated = {path for entry in entries(before).values() if entry["operation"] == "Update" for path in owned(entry)}
     if any(path in updated for path in kept):
         return "an item in which an Update owns something stays"
     return "fields that nobody owns stay"
@@ -58,7 +61,7 @@ def object_reason(server, bench, before):
 def ways_values(value, path=()):
     """The leaves of a value by their paths: fields by name, items by their key."""
     if isinstance(value, dict) and value:
-        return {way: leaf for name, part in value.items() for way, leaf in ways_values(part, (*path, f"f:{name}")).items()}
+        return {below: leaf for name, part in value.items() for below, leaf in ways_values(part, (*path, f"f:{name}")).items()}
     if isinstance(value, list) and value and all(isinstance(item, dict) and ("name" in item or "port" in item) for item in value):
         found = {}
         for item in value:
@@ -92,12 +95,16 @@ def at(value, path):
     return value
 
 
-def verdict_reason(their_conflicts, our_conflicts):
-    """Why one has conflicts and the other hasn't."""
-    if their_conflicts and {manager for manager, _ in their_conflicts} == {FIRST}:
+def verdict_reason(their_conflicts, our_conflicts, before):
+    """Why one has conflicts and the other hasn't. `before` is the bench's object before the command."""
+    theirs, ours = ({manager for manager, _ in conflicts or ()} for conflicts in (their_conflicts, our_conflicts))
+    if theirs == {FIRST}:
         return FIRST
-    if our_conflicts and {manager for manager, _ in our_conflicts} == {CLIENT_SIDE}:
+    if CLIENT_SIDE in ours:
         return "client-side apply"
+    empty = {way(path) for path, leaf in ways_values(body(before)).items() if leaf in ("{}", "[]")}
+    if their_conflicts and all(field in empty for _, field in their_conflicts):
+        return "emptied containers"
     return "another verdict"
 
 
@@ -118,5 +125,5 @@ def table_reasons(server, bench):
             if isinstance(there, list) and key[1] == "Apply":
                 reasons.add("an applied empty list is owned")
             else:
-                reasons.add("an empty map that others fill stays owned" if isinstance(there, dict) else "another set")
+                reasons.add("emptied containers" if isinstance(there, dict) else "another set")
     return reasons

@@ -82,6 +82,21 @@ class Along:
         named = name if not is_other and self.place.kind == "record" else "*"
         return Along(place, self.value[name], path, self.way + way_of_name(name), f"{self.schema_way}.{named}")
 
+    def children(self):
+        """The places below that stand there: fields, entries and items; none of a place that is owned as one."""
+        if self.place.is_leaf or self.is_whole:
+            return []
+        if isinstance(self.value, dict):
+            texts = [f"f:{name}" for name in self.value]
+        elif self.place.kind == "set" and isinstance(self.value, list):
+            texts = ["v:" + compact(item) for item in self.value]
+        elif isinstance(self.value, list):
+            texts = ["k:" + compact(named_keys(self.place, item)) for item in self.value]
+        else:
+            texts = []
+        steps = (self.step(text) for text in texts)
+        return [child for child in steps if child is not None and child.value is not None]
+
     def all_paths(self):
         """The path of the place, and of each field of it that is there."""
         fields = self.value.items() if isinstance(self.value, dict) else ()

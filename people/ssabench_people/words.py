@@ -76,8 +76,9 @@ def parser():
     words.add("redo", "Go on over an undone command.", do_plain, ("json",))
     show = words.add("show", "The object.", do_show, ("yaml", "json", "name"))
     show.add_argument("--show-managed-fields", action="store_true", help="with its managers' entries")
-    owners = words.add("owners", "Who owns a field.", do_owners, ("json",))
-    owners.add_argument("path", metavar="PATH", help="the way to the field")
+    owners = words.add("owners", "Who owns a field, or each.", do_owners, ("json",))
+    owners.add_argument("path", nargs="?", metavar="PATH", help="the way to the field; all fields, where none is given")
+    owners.add_argument("--manager", metavar="NAME", help="of all fields those that a manager owns")
     words.add("log", "The commands of the history.", do_log, ("json",))
     return words.top
 
