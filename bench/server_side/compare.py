@@ -17,7 +17,7 @@ import tempfile
 TOP = os.path.dirname(os.path.dirname(os.path.dirname(os.path.realpath(__file__))))
 sys.path[:0] = [os.path.join(TOP, "people"), os.path.join(TOP, "people", "tests")]
 
-from differences import CLIENT_SIDE, object_reason, table_reasons, verdict_reason  # noqa: E402
+from differences import CLIENT_SIDE, conflict_reason, object_reason, table_reasons  # noqa: E402
 from drawn import DEPLOYMENT, ROUTE, ROUTE_SCHEMA, Drawer  # noqa: E402
 from sides import Server, Workbench  # noqa: E402
 from ssabench_people.migration import ANNOTATION  # noqa: E402
@@ -88,13 +88,13 @@ class Stories:
             before = self.workbench.live()
             ours, our_conflicts = self.workbench.asked(do, given, manager, force)
             self.counts["commands"] += 1
+            why = conflict_reason(their_conflicts, our_conflicts, before)
             if (theirs is None) != (ours is None):
-                self.counts[f"verdict: {verdict_reason(their_conflicts, our_conflicts, before)}"] += 1
+                self.counts[f"verdict: {why}"] += 1
                 return
             self.counts["verdict: the same"] += 1
             if theirs is None:
-                self.counts["conflicts"] += 1
-                self.counts["conflicts: the same managers and fields"] += their_conflicts == our_conflicts
+                self.counts[f"conflicts: {why or 'the same managers and fields'}"] += 1
                 continue
             self.counts["done by both"] += 1
             reason = object_reason(theirs, ours, before)

@@ -50,8 +50,13 @@ def object_reason(server, bench, before):
     if any(key[0] == FIRST for key in entries(whole)):
         return FIRST
     kept = mine.keys() - its.keys()
-    if its.keys() - mine.keys() or any(mine[path] != its[path] for path in its):
+    gone = its.keys() - mine.keys()
+    lists = [path for entry in entries(before).values() for path in owned(entry) if isinstance(at(before, path), list)]
+    if any(mine[path] != its[path] for path in its.keys() & mine.keys()):
         return "another object"
+    if gone:
+        listed = all(any(path[: len(above)] == above for above in lists) for path in gone)
+        return "a list applied as empty goes with its items" if listed else "another object"
     updated = {path for entry in entries(before).values() if entry["operation"] == "Update" for path in owned(entry)}
     if any(path in updated for path in kept):
         return "an item in which an Update owns something stays"
@@ -95,17 +100,15 @@ def at(value, path):
     return value
 
 
-def verdict_reason(their_conflicts, our_conflicts, before):
-    """Why one has conflicts and the other hasn't. `before` is the bench's object before the command."""
-    theirs, ours = ({manager for manager, _ in conflicts or ()} for conflicts in (their_conflicts, our_conflicts))
-    if theirs == {FIRST}:
-        return FIRST
-    if CLIENT_SIDE in ours:
-        return "client-side apply"
+def conflict_reason(theirs, ours, before):
+    """Why the conflicts differ, where they do: each is a set of pairs, or None where the command was done. `before` is the
+    bench's object before it."""
+    theirs, ours = theirs or set(), ours or set()
     empty = {way(path) for path, leaf in ways_values(body(before)).items() if leaf in ("{}", "[]")}
-    if their_conflicts and all(field in empty for _, field in their_conflicts):
-        return "emptied containers"
-    return "another verdict"
+    reasons = {FIRST if manager == FIRST else "emptied containers" if field in empty else "another" for manager, field in theirs - ours}
+    by_client_side = any(manager == CLIENT_SIDE for manager, _ in ours)
+    reasons |= {"client-side apply" if by_client_side else "another" for _ in ours - theirs}
+    return "another" if "another" in reasons else min(reasons, default=None)
 
 
 def table_reasons(server, bench):
@@ -122,8 +125,8 @@ def table_reasons(server, bench):
             reasons.add("an Update owns the branches that it made" if branch and key[1] == "Update" else "another set")
         for path in mine - its:
             there = at(bench, path)
-            if isinstance(there, list) and key[1] == "Apply":
-                reasons.add("an applied empty list is owned")
+            if isinstance(there, list):
+                reasons.add("an empty list is owned")
             else:
                 reasons.add("emptied containers" if isinstance(there, dict) else "another set")
     return reasons
