@@ -1,0 +1,135 @@
+"""A walk along the elements of a path: through the schema's places, the value there, and the path on the bench."""
+from .documents import compact
+from .elements import bench_first, key_text, named_keys, read, value_text, way_of_name
+from .places import OTHERS
+
+
+class Along:
+    """A place along the way, `value` being what stands there. Begins at the root of an object."""
+
+    def __init__(self, place, value, path=(), way="", schema_way="", is_whole=False, own_text=None):
+        self.place = place
+        self.value = value
+        self.texts = ()  # the path as servers write it
+        self.own_text = own_text  # the last element of it, where it isn't the one that was asked for
+        self.path = path  # on the bench; None at metadata, whose members stand in two fields of the root
+        self.way = way  # as people read it
+        self.schema_way = schema_way  # the same with `[]` for any item and `.*` for any entry
+        self.is_whole = is_whole  # an item that a server takes as one
+
+    @property
+    def is_nobodys(self):
+        """Whether it is the object itself, or its metadata: places that nobody owns on a bench."""
+        return self.path is None or self.path == ()
+
+    def knows(self, text):
+        """Whether the schema has a place under an element."""
+        said = read(text)
+        if said is None:
+            return False
+        if said[0] == "f":
+            return not self.place.is_list and self.place.child(said[1])[0] is not None
+        return self.place.kind == {"k": "map", "v": "set"}[said[0]]
+
+    def way_of(self, text):
+        """The way to the place under an element, also where there is none."""
+        said = read(text)
+        if said is None:
+            return f"{self.way}[{text}]"
+        letter, named = said
+        if letter == "f":
+            return self.way + way_of_name(named)
+        parts = [f"{name}={compact(value)}" for name, value in named.items()] if letter == "k" else [f"={compact(named)}"]
+        return f"{self.way}[{','.join(parts)}]"
+
+    def step(self, text):
+        """The place under an element; None where the schema hasn't it, or it isn't there."""
+        found = self._step(text) if self.knows(text) else None
+        if found is not None:
+            found.texts = (*self.texts, found.own_text or text)
+        return found
+
+    def _step(self, text):
+        letter, said = read(text)
+        if letter == "f":
+            return self._field(said)
+        if not isinstance(self.value, list):
+            return None
+        if letter == "v":
+            there = any(compact(item) == compact(said) for item in self.value)
+            return self._below(said, value_text(self.place, said), "v:" + compact(said)) if there else None
+        keys = {name: said.get(name, self.place.fill.get(name)) for name in self.place.keys}
+        if any(value is None for value in keys.values()) or set(said) - set(keys):
+            return None
+        item = item_at(self.place, self.value, keys)
+        return None if item is None else self._below(item, key_text(self.place, keys), "k:" + compact(keys))
+
+    def _below(self, item, bench_text, text):
+        whole = self.place.whole_items
+        path, way = (*self.path, bench_text), self.way_of(text)
+        return Along(self.place.item, item, path, way, f"{self.schema_way}[]", whole, text)
+
+    def _field(self, name):
+        if not isinstance(self.value, dict) or name not in self.value:
+            return None
+        place, is_other = self.place.child(name)
+        if self.path is None:
+            path = tuple(bench_first(name))
+        elif self.path == () and name == "metadata":
+            path = None
+        else:
+            path = (*self.path, *(["f:" + OTHERS] if is_other else []), "f:" + name)
+        named = name if not is_other and self.place.kind == "record" else "*"
+        return Along(place, self.value[name], path, self.way + way_of_name(name), f"{self.schema_way}.{named}")
+
+    def children(self):
+        """The places below that stand there: fields, entries and items; none of a place that is owned as one."""
+        if self.place.is_leaf or self.is_whole:
+            return []
+        if isinstance(self.value, dict):
+            texts = [f"f:{name}" for name in self.value]
+        elif self.place.kind == "set" and isinstance(self.value, list):
+            texts = ["v:" + compact(item) for item in self.value]
+        elif isinstance(self.value, list):
+            texts = ["k:" + compact(named_keys(self.place, item)) for item in self.value]
+        else:
+            texts = []
+        steps = (self.step(text) for text in texts)
+        return [child for child in steps if child is not None and child.value is not None]
+
+    def all_paths(self):
+        """The path of the place, and of each field of it that is there."""
+        fields = self.value.items() if isinstance(self.value, dict) else ()
+        there = [name for name, value in fields if value is not None and self.place.child(name)[0]]
+        return [self.path, *(self._field(name).path for name in there)]
+
+
+def item_at(place, items, keys):
+    """The item of a map list that has these keys; None where there is none."""
+    wanted = compact(keys)
+    for item in items:
+        named = named_keys(place, item) if isinstance(item, dict) else None
+        if named is not None and compact(named) == wanted:
+            return item
+    return None
+
+
+def _at(root, value, texts):
+    here = Along(root, value)
+    for text in texts:
+        here = here.step(text)
+        if here is None:
+            return None
+    return here
+
+
+def value_at(root, value, texts):
+    """What stands in an object at a path as servers write it; None where nothing does."""
+    here = _at(root, value, texts)
+    return here and here.value
+
+
+def place_at(root, value, texts):
+    """The place of a path that stands in an object; None where nothing does."""
+    here = _at(root, value, texts)
+    return here and here.place

@@ -1,0 +1,132 @@
+"""What is printed: the proved program's replies with paths and values as servers and people write them."""
+import json
+
+from .along import place_at, value_at
+from .documents import compact, to_yaml
+from .elements import told_paths
+from .fields import said_paths
+from .migration import client_side_appliers
+from .report import line
+from .turning import PART_BY_PART
+
+MOST_LINES = 20
+SAID = {
+    2: "a null",
+    3: "a number that is no whole one of 64 bits",
+    20: "no such field",
+    21: "a value of another type",
+    22: "an item without one of its keys",
+    23: "an item that an earlier one equals",
+    24: "more than 20,000 paths",
+    40: "an owned path that is not there",
+    61: "a manifest has no managedFields",
+    63: "the history is full",
+    64: "nothing to undo",
+    65: "nothing to redo",
+}
+
+
+def turned_reply(root, reply):
+    """The reply with each path as servers write it."""
+    turned = dict(reply)
+    for name in ("added", "modified", "removed"):
+        if name in turned:
+            turned[name] = [texts for texts, _ in told_paths(root, turned[name])]
+    if "path" in turned:
+        turned["path"] = next((texts for texts, _ in told_paths(root, [turned["path"]])), [])
+    if "conflicts" in turned:
+        turned["conflicts"] = [
+            {**conflict, "fields": [texts for texts, _ in told_paths(root, conflict["fields"])]}
+            for conflict in turned["conflicts"]
+        ]
+    return turned
+
+
+def print_json(value):
+    print(json.dumps(value, ensure_ascii=False, indent=2, sort_keys=True))
+
+
+def print_object(value, form):
+    print(json.dumps(value, ensure_ascii=False, indent=2, sort_keys=True) if form == "json" else to_yaml(value).rstrip("\n"))
+
+
+def object_name(value):
+    group = value["apiVersion"].rpartition("/")[0]
+    kind = value["kind"].lower()
+    return f"{kind}{'.' if group else ''}{group}/{value['metadata']['name']}"
+
+
+def who(owner):
+    """A manager with its operation, and the part through which it acts where that is a subresource."""
+    part = f" through {owner['subresource']}" if owner.get("subresource") else ""
+    return f"{owner['manager']} ({owner['operation']}{part})"
+
+
+def owned_below(live, texts):
+    """Each entry that owns something below a path, with how many paths."""
+    found = []
+    for entry in live["metadata"].get("managedFields") or []:
+        paths = said_paths(entry["fieldsV1"])
+        count = sum(1 for path in paths if path[: len(texts)] == texts and len(path) > len(texts))
+        if count:
+            found.append((entry, count))
+    return found
+
+
+def print_change(root, name, done, reply):
+    """What a command changed, a line a field."""
+    print(f"{name} {done}")
+    for part in ("added", "modified", "removed"):
+        for _, way in told_paths(root, reply[part]):
+            print(f"  {part:<9}{way}")
+
+
+def said(reply):
+    """A refusal's name in words."""
+    return f"{SAID[reply['fault']]} ({reply['name']})" if reply["fault"] in SAID else reply["name"]
+
+
+def tell_refusal(root, name, reply, lines):
+    """Where and why the proved program refused a file."""
+    if reply is None or "path" not in reply:
+        for told in lines or ([said(reply)] if reply else []):
+            line(f"{name}: {told}" if not lines else told)
+        return
+    way = next((way for _, way in told_paths(root, [reply["path"]])), "")
+    line(f"{name}: {way or 'the whole'}: {said(reply)}")
+
+
+def shown_value(value):
+    """A value in a line for people: scalars whole, all else cut after some letters."""
+    text = compact(value)
+    return text if len(text) <= 60 else f"{text[:57]}.."
+
+
+def tell_conflicts(root, conflicts, live, manifest, applier):
+    """A line for each field in conflict, with both values, and the ways out."""
+    fields = [(conflict, *told) for conflict in conflicts for told in told_paths(root, conflict["fields"])]
+    for conflict, texts, way in fields[:MOST_LINES]:
+        is_now, will_be = value_at(root, live, texts), value_at(root, manifest, texts)
+        line(f"conflict with {who(conflict)}: {way} is {shown_value(is_now)}, configured as {shown_value(will_be)}")
+        if isinstance(is_now, dict) and isinstance(will_be, dict) and place_at(root, live, texts).kind == "json":
+            line(f"{way} is {PART_BY_PART}: there only what differs in both can conflict")
+    if len(fields) > MOST_LINES:
+        line(f"and {len(fields) - MOST_LINES} fields more")
+    _tell_client_side(conflicts, live, applier)
+    line(
+        "apply again with --force-conflicts to take these fields over, without them to leave them to their managers, "
+        "or with their live values to own them together"
+    )
+
+
+def _tell_client_side(conflicts, live, applier):
+    """What a server does with who wrote by client-side apply."""
+    writers = client_side_appliers(live["metadata"].get("managedFields") or [])
+    for conflict in conflicts:
+        if conflict["operation"] == "Update" and conflict["manager"] in writers:
+            takes = "is no conflict on a server where it stands in the last-applied annotation as it is live, and is taken by force"
+            told = takes if applier == "kubectl" else "is a conflict on a server too, but not for the manager kubectl"
+            line(
+                f"{conflict['manager']} wrote by client-side apply: what it owns {told}; kubectl makes its fields the applier's "
+                "before it applies, as open does with --migrate"
+            )

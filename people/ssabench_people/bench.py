@@ -1,0 +1,118 @@
+"""A bench: its file, and the file of its places beside it.
+
+`NAME.places.json` holds what the bench's file doesn't: what each place of the schema is, what a server keeps of its own in
+metadata, whether the kind's status is written elsewhere, and the digest of the bench's schema, by which the two are one's.
+"""
+import contextlib
+import copy
+import hashlib
+import json
+import os
+import shutil
+import tempfile
+
+from . import engine, places
+from .documents import compact
+from .objects import from_bench_object
+from .ownership import shown_entry
+from .refusal import Refusal
+
+FORMAT = 1
+
+
+def places_name(name):
+    return f"{name}.places.json"
+
+
+class Bench:
+    """An open bench."""
+
+    def __init__(self, name):
+        self.name = name
+        try:
+            with open(places_name(name), encoding="utf-8") as file:
+                told = json.load(file)
+            if told["format"] != FORMAT:
+                raise Refusal(f"{places_name(name)}: format {told['format']} is not this program's", 3)
+            self.kept, self.written_apart = told["kept"], told["statusApart"]
+            self.root = places.from_json(told["places"])
+            schema = told["schema"]
+        except OSError as fault:
+            raise Refusal(f"cannot read {places_name(name)}: a bench is made by the word open", 3) from fault
+        except (ValueError, KeyError, TypeError) as fault:
+            raise Refusal(f"{places_name(name)}: not what the word open writes", 3) from fault
+        if _schema_of(name) not in (None, schema):
+            raise Refusal(f"{places_name(name)} is another bench's: {name} has another schema", 3)
+
+    def live(self):
+        """The object, with its managers' entries, as a server shows them."""
+        value = engine.asked("show", self.name, "--show-managed-fields")["object"]
+        shown, entries = from_bench_object(self.root, value, self.kept)
+        if entries:
+            shown["metadata"]["managedFields"] = [shown_entry(self.root, entry) for entry in entries]
+        return shown
+
+    @contextlib.contextmanager
+    def copied(self):
+        """The same bench in a copy of its file, for what is to change nothing."""
+        with tempfile.TemporaryDirectory(prefix="ssabench-") as folder:
+            twin = copy.copy(self)
+            twin.name = os.path.join(folder, "bench")
+            try:
+                shutil.copyfile(self.name, twin.name)
+            except OSError as fault:
+                raise Refusal(f"cannot read {self.name}", 3) from fault
+            yield twin
+
+
+def _schema_of(name):
+    """The digest of the schema that stands in a bench's file; None where none can be read, which the proved program tells."""
+    try:
+        with open(name, "rb") as file:
+            file.readline()
+            return _digest(file.readline().rstrip(b"\n"))
+    except OSError:
+        return None
+
+
+def _digest(text):
+    return hashlib.sha256(text).hexdigest()
+
+
+def make(name, root, value, kept, status_apart, source="the object"):
+    """Makes a bench of an object of the bench, which came from `source`. Gives the status, the reply and the lines of the proved
+    program; neither file is touched where it refuses."""
+    folder = os.path.dirname(os.path.abspath(name))
+    schema = places.engine_root(root)
+    told = {"format": FORMAT, "kept": kept, "statusApart": status_apart, "places": places.to_json(root)}
+    told["schema"] = _digest(compact(schema).encode("utf-8"))
+    try:
+        made = tempfile.mkdtemp(prefix=".ssabench-", dir=folder)
+    except OSError as fault:
+        raise Refusal(f"cannot write {name}", 3) from fault
+    try:
+        paths = {part: os.path.join(made, part) for part in ("schema.json", "object.json", "bench", "places.json")}
+        for part, content in (("schema.json", schema), ("object.json", value), ("places.json", told)):
+            with open(paths[part], "w", encoding="utf-8") as file:
+                json.dump(content, file, ensure_ascii=False, sort_keys=True)
+        status, reply, lines = engine.called("init", paths["schema.json"], paths["object.json"], paths["bench"])
+        if status == 0:
+            os.replace(paths["places.json"], places_name(name))
+            os.replace(paths["bench"], name)
+        named = [line.replace(paths["object.json"], source).replace(paths["schema.json"], "the schema") for line in lines]
+        return status, reply, named
+    except OSError as fault:
+        raise Refusal(f"cannot write {name}", 3) from fault
+    finally:
+        shutil.rmtree(made, ignore_errors=True)
+
+
+def with_file(value, source, call):
+    """What `call` gives, the status, the reply and the lines of the proved program, with the name of a file that holds the value,
+    which came from `source`."""
+    with tempfile.TemporaryDirectory(prefix="ssabench-") as folder:
+        path = os.path.join(folder, "manifest.json")
+        with open(path, "w", encoding="utf-8") as file:
+            json.dump(value, file, ensure_ascii=False)
+        status, reply, lines = call(path)
+        return status, reply, [line.replace(path, source) for line in lines]

@@ -1,0 +1,114 @@
+"""The words: what each takes. What they do stands in `opening`, `commands` and `looks`."""
+import argparse
+import os
+import sys
+
+from .commands import do_command, do_diff, do_plain
+from .looks import do_log, do_owners, do_show
+from .opening import do_open
+from .refusal import Refusal
+from .report import line
+
+STATUSES = "statuses: 0 done; 1 refused, or something would be lost; 2 other words; 3 a file, or the proved program"
+FILE = "the manifest, in YAML or JSON; - is standard input"
+EXAMPLES = {
+    "open": "open --schema apps.json -f live.yaml web.bench",
+    "apply": "apply -f manifest.yaml --field-manager autoscaler --dry-run web.bench",
+    "update": "update -f edited.yaml --field-manager kubectl-edit web.bench",
+    "diff": "diff -f manifest.yaml --field-manager team web.bench",
+    "strip": "strip web.bench",
+    "undo": "undo web.bench",
+    "redo": "redo web.bench",
+    "show": "show --show-managed-fields -o yaml web.bench",
+    "owners": "owners web.bench .spec.template.spec.containers[name=nginx].image",
+    "log": "log web.bench",
+}
+
+
+class Words:
+    """The words, added one after the other."""
+
+    def __init__(self):
+        self.top = argparse.ArgumentParser(prog="kubectl-ssabench", description="A workbench for Server-Side Apply.", epilog=STATUSES)
+        self.words = self.top.add_subparsers(dest="word", required=True, metavar="WORD")
+
+    def add(self, name, told, do, forms=(), aliases=(), statuses=STATUSES):
+        example = f"example: kubectl-ssabench {EXAMPLES[name]}"
+        word = self.words.add_parser(name, help=told, description=told, epilog=f"{example} | {statuses}", aliases=aliases)
+        word.set_defaults(do=do, does=name, output=None, dry_run=None)
+        word.add_argument("bench", metavar="BENCH", help="the bench's file")
+        if forms:
+            word.add_argument("-o", "--output", choices=forms, help="the form of what is printed")
+        return word
+
+    def add_of_file(self, name, told, do, field_manager, forms=(), aliases=(), statuses=STATUSES):
+        word = self.add(name, told, do, forms, aliases, statuses)
+        word.add_argument("-f", "--filename", dest="file", required=True, metavar="FILE", help=FILE)
+        word.add_argument("--field-manager", default=field_manager, metavar="NAME", help=f"who does it ({field_manager})")
+        word.add_argument("--subresource", choices=("status",), help="through which part it is done, where the program has it")
+        word.add_argument("--at", metavar="MOMENT", help="the moment, as 2024-05-01T10:00:00Z; now, where none is given")
+        return word
+
+
+def dry_run(word):
+    word.add_argument("--dry-run", choices=("server",), help="say what it would do, and change nothing; `=server` may be left out")
+
+
+def parser():
+    words = Words()
+    _add_open(words)
+    apply = words.add_of_file("apply", "A manager applies a manifest.", do_command, "kubectl", ("json", "name"))
+    diff = words.add_of_file(
+        "diff", "What an apply would change.", do_diff, "kubectl", statuses="statuses: 0 nothing; 1 something; 2 and 3 refused"
+    )
+    diff.add_argument("--show-managed-fields", action="store_true", help="with the managers' entries")
+    for word in (apply, diff):
+        word.set_defaults(does="apply")
+        word.add_argument("--force-conflicts", action="store_true", help="take the fields that others own")
+        word.add_argument("--server-side", action="store_true", help="as kubectl's; nothing else is done here")
+    dry_run(apply)
+    update = words.add_of_file(
+        "update", "A manager replaces the object.", do_command, "kubectl-replace", ("json", "name"), aliases=("replace",)
+    )
+    dry_run(update)
+    dry_run(words.add("strip", "Forget all managers.", do_plain, ("json",)))
+    words.add("undo", "Go back over a command.", do_plain, ("json",))
+    words.add("redo", "Go on over an undone command.", do_plain, ("json",))
+    show = words.add("show", "The object.", do_show, ("yaml", "json", "name"))
+    show.add_argument("--show-managed-fields", action="store_true", help="with its managers' entries")
+    owners = words.add("owners", "Who owns a field, or each.", do_owners, ("json",))
+    owners.add_argument("path", nargs="?", metavar="PATH", help="the way to the field; all fields, where none is given")
+    owners.add_argument("--manager", metavar="NAME", help="of all fields those that a manager owns")
+    words.add("log", "The commands of the history.", do_log, ("json",))
+    return words.top
+
+
+def _add_open(words):
+    word = words.add("open", "Make a bench of a schema and an object.", do_open)
+    schema = "a CustomResourceDefinition or an OpenAPI document, in YAML or JSON; - is standard input"
+    word.add_argument("--schema", action="append", required=True, metavar="FILE", help=schema)
+    word.add_argument("--kind", help="the kind, where it isn't the object's")
+    word.add_argument("--version", help="the version of the schema, where it isn't the object's")
+    word.add_argument("-f", "--filename", dest="file", required=True, metavar="OBJECT", help=FILE.replace("manifest", "object"))
+    word.add_argument("--drop", action="store_true", help="leave out what the bench can't take")
+    word.add_argument("--same-schema", action="store_true", help="take entries of other versions as of the object's")
+    word.add_argument("--migrate", action="store_true", help="make who wrote by client-side apply the applier")
+    word.add_argument("--field-manager", default="kubectl", metavar="NAME", help="the applier that --migrate makes (kubectl)")
+    word.add_argument("--force", action="store_true", help="replace a bench that is there")
+
+
+def main(words):
+    if words[:1] == ["help"]:
+        words = [*words[1:2], "--help"]
+    args = parser().parse_args(["--dry-run=server" if word == "--dry-run" else word for word in words])
+    try:
+        return args.do(args)
+    except Refusal as refusal:
+        line(refusal.sentence)
+        return refusal.status
+    except RecursionError:
+        line("a value is nested too deep")
+        return 1
+    except BrokenPipeError:
+        os.dup2(os.open(os.devnull, os.O_WRONLY), sys.stdout.fileno())
+        return 3
