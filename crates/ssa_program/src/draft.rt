@@ -142,7 +142,10 @@ fn draft_mode(mode: u32, is_group_kept: bool) -> u32 {
 
 // Gives the draft the owner, the group and the mode of the file whose place it takes. Who may not give files away stays the
 // owner.
-fn keep_access<T: Files>(rt: &T, draft: &Draft<T::File>, found: &Metadata) -> io::Result<()> {
+fn keep_access<T: Files>(rt: &T, draft: &Draft<T::File>) -> io::Result<()> {
+    let Some(found) = &draft.place.found else {
+        return Ok(());
+    };
     let made = draft.file.metadata()?;
     let path = draft.path.as_str();
     if (made.uid() != found.uid() || made.gid() != found.gid())
@@ -197,9 +200,7 @@ pub fn put_draft<'a, T: Files + AllocGlobal>(
     ensures fits { OnOk result (length (recorded_text bench.now) ≤ most_bench_bytes) }
     ensures trouble { IfErr result (IsSaveTrouble name.now (recorded_text bench.now)) }
 {
-    if let Some(found) = &draft.place.found
-        && keep_access(rt, draft, found).is_err()
-    {
+    if keep_access(rt, draft).is_err() {
         return Err(Trouble::CannotWrite(name));
     }
     match write_bench(rt.alloc(), &mut draft.file, bench) {
