@@ -349,14 +349,15 @@ fn answer_and_save<'a, T: Files + AllocGlobal, W: Sink>(
     ensures ended { IfOk result (λ s. s ≡ status_for (is_asked_accepted bench.old (asked_view asked.entry))) }
 {
     let reply = answer(rt.alloc(), bench, asked)?;
+    let mut saved = None;
     if reply.is_change {
         put_draft(rt, draft, name, bench)?;
-        return write_answer(writer, reply, Some(name));
+        saved = Some(name);
     }
     if !reply.is_accepted {
         notes.about_command(rt.alloc(), bench, asked, file);
     }
-    write_answer(writer, reply, None)
+    write_answer(writer, reply, saved)
 }
 
 // Holds a session on the bench of a file. Until it ends, no other call may save the bench.
