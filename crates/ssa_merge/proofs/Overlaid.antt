@@ -1,6 +1,5 @@
 -- A body over another: its places and its parts are told by its places, as those of the two are.
 use Rattle.std.proofs.Common.{◌≡◌, List, [], ◌∷◌, ◌++◌, Bool, true, false, not, ◌&&◌, ◌||◌, inl, inr, refl, sym, ap, ◌∙◌, true≢false}
-use Rattle.std.proofs.lemmas.List.Folds.{list_any-append}
 use Rattle.std.specs.Cmp.{both_ways, first_so}
 use Rattle.std.specs.Prelude.{filter, option_map, is_some, if◌then◌else◌, Option, Some, None}
 use Rattle.ssa_model.specs.definitions.Path.{Element, Path, is_root, same_element, same_path, under}
@@ -9,7 +8,7 @@ use Rattle.ssa_model.specs.definitions.Kind.{is_among}
 use Rattle.ssa_model.specs.definitions.Body as model
 use Rattle.ssa_model.specs.definitions.Body.{Content, leaf, atom, record_branch, dict_branch, list_branch, is_point, joined, order_at, over, over_content, points, restricted, restricted_content}
 use Rattle.ssa_model.proofs.Basics.{or_true, yes_no}
-use Rattle.ssa_model.proofs.Fitting.{among-filter}
+use Rattle.ssa_model.proofs.Fitting.{among-filter, among-joined}
 use Rattle.ssa_model.proofs.PathMaps.{get-over, get-restricted, has-insert, has-points, same_map, same_path-itself, same_path-true}
 use Rattle.ssa_model.proofs.Pruned.{not_root, order-restricted, under-push}
 use Rattle.ssa_model.proofs.Tables.{either, has-over, true_or, under-itself}
@@ -136,11 +135,7 @@ module _ (b : model.Body) (items : ItemsAreThere b) (f g : Path → Bool) (agree
 -- ---- one over another
 
 among-either : (xs es : List Element) (e : Element) → is_among e (joined xs es) ≡ true → (is_among e xs || is_among e es) ≡ true
-among-either xs es e h =
-    either (is_among e xs) (is_among e (filter (λ f. not (is_among f xs)) es)) (sym (list_any-append (same_element e) xs (filter (λ f. not (is_among f xs)) es)) ∙ h)
-    (true_or (is_among e xs) (is_among e es))
-    (λ k. or_true (is_among e xs) (is_among e es)
-    (first_so (is_among e es) (not (is_among e xs)) (sym (among-filter (λ f. not (is_among f xs)) es e) ∙ k)))
+among-either xs es e h = sym (among-joined xs es e) ∙ h
 
 -- what is in a list of one over another is in a list of one of the two
 among-over : (l c : Option Content) (e : Element) → is_among e (order_at (over_content l c)) ≡ true

@@ -15,7 +15,7 @@ ghost use Rattle.ssa_model.specs.examples.RecordedRows.{RecordedFilesAreWritten,
 ghost use Rattle.ssa_model.specs.examples.FittingRows.{RecordsFit, BodyRecordsFit, RepeatedLeafMisfits, WrongLeafMisfits, WrongPartMisfits, PutAgainMisfits, CutKeyFieldMisfits, CutNothingMisfits, GoneNobodyMisfits};
 ghost use Rattle.ssa_model.specs.examples.PlaceRows.{ItemReplaced, OtherPartKept, IsPlaceMet};
 ghost use Rattle.ssa_model.specs.examples.RecordReadingRows.{RecordsAreRead, ShapesAreTold, OtherShapesAreRefused, ReadStatesAreMet};
-ghost use Rattle.ssa_model.specs.examples.RecordRows.{FirstApplyRecord, ForcedRecord, GivenUpRecord, RemovedItemRecord, RemovedItemPlace, ReorderRecord, RepeatRecord, StripRecord, SetFilledRecord, SetEmptiedRecord, LiveItemsRecord, LedRecord, ForcedFacts, ReorderFacts, RemovedItemFacts, FirstApplyText, ForcedText, RemovedItemText, ReorderText, RecordsAreMet};
+ghost use Rattle.ssa_model.specs.examples.RecordRows.{FirstApplyRecord, ForcedRecord, GivenUpRecord, RemovedItemRecord, RemovedItemPlace, ReorderRecord, RepeatRecord, StripRecord, SetFilledRecord, SetEmptiedRecord, LiveItemsRecord, LedRecord, LedByCommand, ForcedFacts, ReorderFacts, RemovedItemFacts, FirstApplyText, ForcedText, RemovedItemText, ReorderText, RecordsAreMet};
 
 /// The sizes of the records of worked commands, back and forth.
 pub fn record_sizes()
@@ -30,6 +30,7 @@ pub fn record_sizes()
     ensures filled { SetFilledRecord }
     ensures live { LiveItemsRecord }
     ensures led { LedRecord }
+    ensures by_command { LedByCommand }
     ensures place { RemovedItemPlace }
 {}
 

@@ -4,7 +4,9 @@ use Rattle.std.specs.Prelude.{filter}
 use Rattle.ssa_model.specs.definitions.Body.{list_branch, joined}
 use Rattle.ssa_model.specs.definitions.Kind.{is_among}
 use Rattle.ssa_model.specs.definitions.Path.{Element, Path, is_item_element}
+use Rattle.ssa_model.specs.definitions.Record.{are_in_one_order}
 use Rattle.ssa_model.proofs.Basics.{both-true as both}
+use Rattle.ssa_model.proofs.Joining.{joined-in-order}
 use Rattle.ssa_model.proofs.Fitting.{among-filter, distinct-joined}
 use Rattle.std.proofs.lemmas.List.Elements.{filter-append}
 use Rattle.ssa_path.specs.Children.{child_at, elements}
@@ -123,17 +125,19 @@ module _ (p : Path) (gone : Gone) (live : Node) (config : List Child) (old : Lis
 
 -- ---- the order of a list
 
--- of the joined elements of two lists some stay: those of the first that do, and all that the second alone has
-pub joined-left : (test : Element → Bool) (cs config xs : List Child) → elements xs ≡ filter test (elements cs)
+-- of the joined elements of two lists, of which those of both stand in one order, some stay: those of the first that do, and all that the second alone has
+pub joined-left : (test : Element → Bool) (cs config xs : List Child) → are_in_one_order (elements cs) (elements config) ≡ true
+    → elements xs ≡ filter test (elements cs)
     → ((e : Element) → is_among e (elements config) ≡ true → test e ≡ true)
     → elements (xs ++ filter (is_new cs) config) ≡ filter test (joined (elements cs) (elements config))
-joined-left test cs config xs own kept =
+joined-left test cs config xs order own kept =
     let new = filter (λ f. not (is_among f (elements cs))) (elements config) in
     let stay : filter test new ≡ new = all-pass test new (λ e among. kept e (both_first (is_among e (elements config)) _
     (sym (among-filter (λ f. not (is_among f (elements cs))) (elements config) e) ∙ among))) in
     elements-append xs (filter (is_new cs) config)
     ∙ (λ i. own i ++ (new-elements cs config ∙ sym stay) i)
     ∙ sym (filter-append test (elements cs) new)
+    ∙ ap (filter test) (sym (joined-in-order (elements cs) (elements config) order))
 
 -- the joined elements of two lists may stand at one
 pub joined-stand : (os es fs : List Element) → (are_apart es && are_items es) ≡ true → (are_apart fs && are_items fs) ≡ true

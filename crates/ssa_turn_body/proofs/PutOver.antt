@@ -6,7 +6,8 @@ use Rattle.std.proofs.lemmas.List.{drop_more, length-drop, length-map, nil_from_
 use Rattle.ssa_model.specs.definitions.Body.{Content, leaf, atom, record_branch, dict_branch, list_branch, joined, order_at, over_content}
 use Rattle.ssa_model.specs.definitions.Kind.{is_among}
 use Rattle.ssa_model.specs.definitions.Path.{Element, Path, same_element}
-use Rattle.ssa_model.specs.definitions.Record.{is_reordered}
+use Rattle.ssa_model.specs.definitions.Record.{are_in_one_order, is_reordered}
+use Rattle.ssa_model.proofs.Basics.{not_false}
 use Rattle.ssa_path.specs.Children.{child_at, elements, rises}
 use Rattle.ssa_path.specs.View.{element_view}
 use Rattle.ssa_path.specs.declared.element.Elem.{Elem}
@@ -207,7 +208,8 @@ module _ (p : Path) (gone : Gone) (live : Node) (config : List Child) (old : Lis
       let apart = stand-apart (own_content live) (elements config) stand in
       let passing = coming-all p gone live config old steps apart trees fresh h.fates count t h.passing (ap (λ l. l ++ fresh) h.none) met in
       let order : elements (after fs) ≡ filter test (joined (elements cs) (elements config)) =
-      ap elements (after-coming h.fates fresh) ∙ joined-left test cs config (after h.fates) names kept in
+      ap elements (after-coming h.fates fresh) ∙ joined-left test cs config (after h.fates)
+      (not_false (are_in_one_order (elements cs) (elements config)) (ap (λ c. is_reordered (Some c) (Some (list_branch (elements config)))) (sym listed) ∙ may.items)) names kept in
       let own_stand = ap (λ c. may_stand c (elements cs)) (sym listed) ∙ own-stands live (elements config) tree stand in
       let config_stand = ap (λ c. may_stand c (elements config)) (sym listed) ∙ stand in
       passing-place p gone live config old fs (count + length fresh) (with_all_come count fresh t) steps new tree (before-coming h.fates fresh ∙ met) passing

@@ -36,6 +36,7 @@ pub mod Pairs
 pub mod Parting
 pub mod Reached
 pub mod References
+pub mod Refilling
 pub mod Repeating
 pub mod Restricting
 pub mod Rooted

@@ -2,7 +2,7 @@
 use Rattle.std.proofs.Common.{◌≡◌, suc, ◌+◌, ◌*◌, ◌<◌, length, List, [], ◌∷◌, ◌++◌, Bool, true, false, not, ◌&&◌, cond, Option, Some, None, refl, sym, ap, subst, ◌∙◌, true≢false, arith, rules, Result, Ok, Err}
 use Rattle.std.specs.Prelude.{filter, OnOk}
 use Rattle.std.specs.List.{list_any}
-use Rattle.ssa_model.specs.definitions.Body.{Content, leaf, atom, record_branch, dict_branch, list_branch, joined, over_content, over, is_leaf, order_at}
+use Rattle.ssa_model.specs.definitions.Body.{Content, leaf, atom, record_branch, dict_branch, list_branch, joined, laid, over_content, over, is_leaf, order_at}
 use Rattle.ssa_model.specs.definitions.Kind.{is_among}
 use Rattle.ssa_model.specs.definitions.Path.{Element, same_element, is_item_element}
 use Rattle.ssa_model.proofs.PathMaps.{same_map, get-over}
@@ -164,9 +164,26 @@ module _ (test : Element → Bool) where
   all-append [] fs h k = k
   all-append (e ∷ es) fs h k = both _ _ (both_first (test e) _ h) (all-append es fs (both_second (test e) _ h) k)
 
+  all-laid : (moves : Element → Bool) (es fs : List Element) → all_of test es ≡ true → all_of test fs ≡ true → all_of test (laid moves es fs) ≡ true
+  unfolding all_of
+  all-laid moves [] fs h k = k
+  all-laid moves (e ∷ es) [] h k =
+      elim (moves e) as (λ b. all_of test (cond b (laid moves es []) (e ∷ laid moves es [])) ≡ true) [
+        | true ↦ all-laid moves es [] (both_second (test e) _ h) k
+        | false ↦ both _ _ (both_first (test e) _ h) (all-laid moves es [] (both_second (test e) _ h) k)
+      ]
+  all-laid moves (e ∷ es) (f ∷ fs) h k =
+      elim (moves e) as (λ b. all_of test (cond b (f ∷ laid moves es fs) (e ∷ laid moves es (f ∷ fs))) ≡ true) [
+        | true ↦ both _ _ (both_first (test f) _ k) (all-laid moves es fs (both_second (test e) _ h) (both_second (test f) _ k))
+        | false ↦ both _ _ (both_first (test e) _ h) (all-laid moves es (f ∷ fs) (both_second (test e) _ h) k)
+      ]
+
   -- elements that pass a test do so where they are joined
   pub all-joined : (es fs : List Element) → all_of test es ≡ true → all_of test fs ≡ true → all_of test (joined es fs) ≡ true
-  all-joined es fs h k = all-append es (filter (λ f. not (is_among f es)) fs) h (all-filter (λ f. not (is_among f es)) fs k)
+  all-joined es fs h k =
+      all-laid (λ e. is_among e fs) es (filter (λ f. is_among f es) fs ++ filter (λ f. not (is_among f es)) fs) h
+      (all-append (filter (λ f. is_among f es) fs) (filter (λ f. not (is_among f es)) fs) (all-filter (λ f. is_among f es) fs k)
+      (all-filter (λ f. not (is_among f es)) fs k))
 
   all-child : (cs : List Child) (e : Element) (c : Node) → all_of test (elements cs) ≡ true → child_at e cs ≡ Some c → test e ≡ true
   unfolding all_of

@@ -5,7 +5,9 @@ use Rattle.std.specs.List.{list_any}
 use Rattle.ssa_model.specs.definitions.Body.{Content, leaf, atom, record_branch, dict_branch, list_branch, joined, over_content}
 use Rattle.ssa_model.specs.definitions.Kind.{is_among}
 use Rattle.ssa_model.specs.definitions.Path.{Element, Path, same_element}
+use Rattle.ssa_model.specs.definitions.Record.{are_in_one_order}
 use Rattle.ssa_model.proofs.Fitting.{distinct-joined, same_element-true}
+use Rattle.ssa_model.proofs.Joining.{joined-in-order, none-of}
 use Rattle.ssa_path.specs.Children.{child_at, elements}
 use Rattle.ssa_path.specs.declared.element.Elem.{Elem}
 use Rattle.ssa_path.specs.View.{element_view}
@@ -147,7 +149,7 @@ over-none (Some (leaf s)) = refl
 over-none (Some (atom v)) = refl
 over-none (Some record_branch) = refl
 over-none (Some dict_branch) = refl
-over-none (Some (list_branch es)) = ap (λ fs. Some (list_branch fs)) (all_pass es)
+over-none (Some (list_branch es)) = (λ i. Some (list_branch (none-of es i ++ all_pass es i)))
 
 -- of children behind others, the elements stand behind the others'
 pub elements-append : (cs ds : List Child) → elements (cs ++ ds) ≡ elements cs ++ elements ds
@@ -205,15 +207,15 @@ new_child-elements [] = refl
 new_child-elements (d ∷ ds) = ap (λ es. element_view d.0 ∷ es) (new_child-elements ds)
 
 -- the merged children's elements are the live ones, and behind them the configuration's own
-pub merged-elements : (cs ds : List Child) → elements (merged cs ds) ≡ joined (elements cs) (elements ds)
+pub merged-elements : (cs ds : List Child) → elements (merged cs ds) ≡ elements cs ++ filter (λ f. not (is_among f (elements cs))) (elements ds)
 merged-elements cs ds =
     live-elements cs ds (map new_child (filter (is_new cs) ds))
     ∙ ap (λ es. elements cs ++ es) (new_child-elements (filter (is_new cs) ds) ∙ new-elements cs ds)
 
--- what is made of all merged children are the configuration's over the live ones
-pub children-over : (cs ds made : List Child) → AreMade (merged cs ds) made → AreOver cs ds made
-children-over cs ds made each = record {
-  elements_are = made-elements (merged cs ds) made each ∙ merged-elements cs ds;
+-- what is made of all merged children are the configuration's over the live ones, where the elements of both stand in one order
+pub children-over : (cs ds made : List Child) → are_in_one_order (elements cs) (elements ds) ≡ true → AreMade (merged cs ds) made → AreOver cs ds made
+children-over cs ds made order each = record {
+  elements_are = made-elements (merged cs ds) made each ∙ merged-elements cs ds ∙ sym (joined-in-order (elements cs) (elements ds) order);
   contents = λ e q. made-content (merged cs ds) made e q each ∙ ap (λ o. merged_content o q) (merged-found cs ds e)
       ∙ found-content (child_at e cs) (child_at e ds) q;
   trees = made-trees (merged cs ds) made each;
@@ -257,36 +259,6 @@ module _ (p : MergedChild) (x : Child) (same : element_view x.0 ≡ element_view
     content = λ q. ap (λ rs. content_at rs q) (kept-rows x.1 p.1.0 copy) ∙ ap (λ o. over_content (content_at (rows p.1.0) q) (content_in o q)) (sym none);
     tree = kept-tree x.1 p.1.0 copy ∙ tree;
   }
-
--- what the configuration alone has, as it is
-made-new : (ds : List Child) → are_trees ds ≡ true → AreMade (map new_child ds) ds
-made-new [] trees = tt
-made-new (d ∷ ds) trees =
-    (record { element = refl; content = λ q. refl; tree = both_first (is_tree d.1) _ trees }, made-new ds (both_second (is_tree d.1) _ trees))
-
-made-append : (ps qs : List MergedChild) (xs ys : List Child) → AreMade ps xs → AreMade qs ys → AreMade (ps ++ qs) (xs ++ ys)
-made-append [] qs [] ys h k = k
-made-append [] qs (x ∷ xs) ys h k = absurd h
-made-append (p ∷ ps) qs [] ys h k = absurd h
-made-append (p ∷ ps) qs (x ∷ xs) ys h k = (h.0, made-append ps qs xs ys h.1 k)
-
-new-trees : (cs ds : List Child) → are_trees ds ≡ true → are_trees (filter (is_new cs) ds) ≡ true
-new-trees cs [] h = refl
-new-trees cs (d ∷ ds) h =
-    let rest = new-trees cs ds (both_second (is_tree d.1) _ h) in
-    elim (is_new cs d) as (λ b. are_trees (cond b (d ∷ filter (is_new cs) ds) (filter (is_new cs) ds)) ≡ true) [
-      | true ↦ both _ _ (both_first (is_tree d.1) _ h) rest
-      | false ↦ rest
-    ]
-
--- the live children are made, and what the configuration alone has stands behind them
-pub made-all : (cs ds made new xs : List Child) → are_trees ds ≡ true → AreMade (map (live_child ds) cs) made → new ≡ filter (is_new cs) ds
-    → xs ≡ made ++ new → AreOver cs ds xs
-made-all cs ds made new xs trees each is all =
-    subst (AreOver cs ds) (sym (all ∙ ap (λ l. made ++ l) is))
-    (children-over cs ds (made ++ filter (is_new cs) ds)
-    (made-append (map (live_child ds) cs) (map new_child (filter (is_new cs) ds)) made (filter (is_new cs) ds) each
-    (made-new (filter (is_new cs) ds) (new-trees cs ds trees))))
 
 -- ---- the child at an index
 

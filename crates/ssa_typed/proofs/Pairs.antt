@@ -6,6 +6,9 @@ use Rattle.std.specs.Prelude.{filter}
 use Rattle.ssa_model.specs.definitions.Body.{joined}
 use Rattle.ssa_model.specs.definitions.Kind.{is_among}
 use Rattle.ssa_model.specs.definitions.Path.{Element, same_element}
+use Rattle.ssa_model.specs.definitions.Record.{are_in_one_order, common}
+use Rattle.ssa_model.proofs.Joining.{joined-in-order}
+use Rattle.ssa_model.proofs.Tests.{pointwise-itself}
 use Rattle.ssa_model.proofs.Tables.{true_or, element-itself as same_element-itself}
 use Rattle.ssa_path.specs.Children.{child_at, elements, rises}
 use Rattle.ssa_path.specs.View.{element_view}
@@ -117,16 +120,21 @@ none-new cs ds h =
     (new-elements cs ds ∙ (λ i. filter (λ f. not (is_among f (elements cs))) (sym h i))
     ∙ none-pass (λ f. not (is_among f (elements cs))) (elements cs) (λ e among. ap not among))
 
+-- the same elements stand in one order
+alike-order : (es fs : List Element) → es ≡ fs → are_in_one_order es fs ≡ true
+alike-order es fs h = ap (are_in_one_order es) (sym h) ∙ pointwise-itself same_element same_element-itself (common es es)
+
 -- an order joined with the same one stays as it is
 pub joined-alike : (es fs : List Element) → es ≡ fs → joined es fs ≡ es
 joined-alike es fs h =
-    ap (λ l. es ++ l) (ap (λ l. filter (λ f. not (is_among f es)) l) (sym h) ∙ none-pass (λ f. not (is_among f es)) es (λ e among. ap not among))
+    joined-in-order es fs (alike-order es fs h)
+    ∙ ap (λ l. es ++ l) (ap (λ l. filter (λ f. not (is_among f es)) l) (sym h) ∙ none-pass (λ f. not (is_among f es)) es (λ e among. ap not among))
     ∙ append-nil es
 
 alike-over : (cs ds made : List Child) → AreMade (map (live_child ds) cs) made → elements cs ≡ elements ds → AreOver cs ds made
 alike-over cs ds made each h =
     let live = map (live_child ds) cs in
-    children-over cs ds made (subst (λ ps. AreMade ps made) (sym (append-nil live) ∙ ap (λ news. live ++ map new_child news) (sym (none-new cs ds h))) each)
+    children-over cs ds made (alike-order (elements cs) (elements ds) h) (subst (λ ps. AreMade ps made) (sym (append-nil live) ∙ ap (λ news. live ++ map new_child news) (sym (none-new cs ds h))) each)
 
 -- ---- each child of the configuration put over the live child beside it
 

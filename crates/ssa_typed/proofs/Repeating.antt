@@ -5,6 +5,7 @@ use Rattle.ssa_model.specs.definitions.Body.{Content, leaf, atom, record_branch,
 use Rattle.ssa_model.specs.definitions.Kind.{is_among}
 use Rattle.ssa_model.specs.definitions.Path.{Element, Path, same_element}
 use Rattle.ssa_model.specs.definitions.Record.{are_in_one_order, is_reordered}
+use Rattle.ssa_model.proofs.Joining.{joined-in-order}
 use Rattle.ssa_model.proofs.Basics.{not_false, some≢none as some-none}
 use Rattle.ssa_path.specs.Children.{child_at, elements, heads_order, rises}
 use Rattle.ssa_path.specs.declared.element.Elem.{Elem}
@@ -122,7 +123,7 @@ child-known cs ds h e among =
     ] refl
 
 known-order : (es fs : List Element) → are_in_one_order es fs ≡ true → ((e : Element) → is_among e fs ≡ true → is_among e es ≡ true) → joined es fs ≡ es
-known-order es fs ordered h = ap (λ l. es ++ l) (none-pass (λ f. not (is_among f es)) fs (λ e among. ap not (h e among))) ∙ append-nil es
+known-order es fs ordered h = joined-in-order es fs ordered ∙ ap (λ l. es ++ l) (none-pass (λ f. not (is_among f es)) fs (λ e among. ap not (h e among))) ∙ append-nil es
 
 repeat-content : (c d : Content) → are_branches_alike c d ≡ true
     → (is_listing c ≡ true → is_listing d ≡ true → joined (order_at (Some c)) (order_at (Some d)) ≡ order_at (Some c))

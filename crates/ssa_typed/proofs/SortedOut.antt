@@ -11,14 +11,11 @@ use Rattle.ssa_path.specs.declared.element.Elem.{Elem}
 use Rattle.ssa_path.specs.View.{element_view}
 use Rattle.ssa_path.proofs.Lists.{elements-append, left-at, taken-at}
 use Rattle.ssa_path.proofs.Orders.{both_first, both_second}
-use Rattle.ssa_typed.specs.Copies.{kept}
 use Rattle.ssa_typed.specs.InOrder.{IsInOrder}
 use Rattle.ssa_typed.specs.MergedOrder.{beside, is_new, lent_place, live_child, next_place, places, whole_child}
-use Rattle.ssa_typed.specs.Over.{AreOver, IsOver}
 use Rattle.ssa_typed.specs.Rows.{are_apart, are_trees, is_tree}
 use Rattle.ssa_typed.specs.declared.node.Node.{Node}
 use Rattle.ssa_typed.proofs.Building.{Child}
-use Rattle.ssa_typed.proofs.Overlaying.{AreMade, IsMade, child-at-index, made-all, made-copied, made-over, made-push}
 use Rattle.ssa_model.proofs.Fitting.{same_element-true}
 use Rattle.ssa_model.proofs.ShownNames.{turned as same_either_way}
 use Rattle.ssa_schema.proofs.Repeats.{some-number}
@@ -295,72 +292,3 @@ module _ (cs ds all left : List Child) (slots : List (Option Child)) (new : List
         slots_are = h.slots_are ∙ beside-apart h.done cs d (none-among (element_view d.0) cs absent);
         new_are = put ∙ ap (λ l. l ++ d ∷ []) h.new_are ∙ sym (filtered true (is_new-absent cs d ∙ absent));
       }
-
--- ---- the walk over the live children
-
--- up to a place, each live child was merged with what its slot held
-pub record IsMerging (cs ds : List Child) (slots : List (Option Child)) (xs : List Child) (i : ℕ) : Type 0 where
-  -- a child is made of each
-  pub made : AreMade (map (live_child ds) (take i cs)) xs
-  -- behind the place, the slots hold the configuration's children
-  pub left : drop i slots ≡ map (beside ds) (drop i cs)
-
-first-slot : (x y : Option Child) (xs ys : List (Option Child)) → x ∷ xs ≡ y ∷ ys → x ≡ y
-first-slot x y xs ys h = cc
-
-rest-slots : (x y : Option Child) (xs ys : List (Option Child)) → x ∷ xs ≡ y ∷ ys → xs ≡ ys
-rest-slots x y xs ys h = cc
-
-module _ (cs ds : List Child) (slots : List (Option Child)) (xs : List Child) (i : ℕ) (c : Child) (o : Option Child) (live : are_apart (elements cs) ≡ true)
-    (lt : i < length cs) (is : c ≡ get_or cs i c) (h : IsMerging cs ds slots xs i) where
-  -- at the place there is a slot
-  pub slot-there : i < length slots
-  slot-there =
-      let sizes : length slots - i ≡ length cs - i = sym (length-drop i slots) ∙ ap length h.left ∙ length-map (drop i cs) (beside ds) ∙ length-drop i cs in
-      omega arith
-
-  parts : get_or slots i o ∷ drop (i + 1) slots ≡ beside ds c ∷ map (beside ds) (drop (i + 1) cs)
-  parts = sym (drop_more slots i o slot-there) ∙ h.left ∙ ap (map (beside ds)) (left-at cs i c lt is)
-
-  -- the live child at the place is the one of its element
-  pub own-child : child_at (element_view c.0) cs ≡ Some c.1
-  own-child = child-at-index cs i c lt is live
-
-  module _ (read : o ≡ get_or slots i o) where
-    slot : o ≡ beside ds c
-    slot = read ∙ first-slot _ _ _ _ parts
-
-    -- what the slot holds is the configuration's child of this element
-    pub config-child : (d : Child) → o ≡ Some d → child_at (element_view c.0) ds ≡ Some d.1
-    config-child d found = whole-child (element_view c.0) ds ∙ ap (option_map (λ x. x.1)) (sym slot ∙ found)
-
-    more : (x : Child) (new : List Child) (after : List (Option Child)) → IsMade (live_child ds c) x → new ≡ xs ++ x ∷ [] → after ≡ set slots i None
-        → IsMerging cs ds after new (i + 1)
-    more x new after one pushed emptied = record {
-      made =
-          subst (AreMade (map (live_child ds) (take (i + 1) cs))) (sym pushed)
-          (subst (λ ps. AreMade ps (xs ++ x ∷ [])) (sym (ap (map (live_child ds)) (taken-at cs i c lt is) ∙ map-append (live_child ds) (take i cs) (c ∷ [])))
-          (made-push (map (live_child ds) (take i cs)) xs (live_child ds c) x h.made one));
-      left = ap (drop (i + 1)) emptied ∙ drop-set-lt (i + 1) slots i None (omega arith) ∙ rest-slots _ _ _ _ parts;
-    }
-
-    -- the next live child is merged with the configuration's child in its slot
-    pub merging-own : (d : Child) (n : Node) (new : List Child) (after : List (Option Child)) → o ≡ Some d → IsOver c.1 d.1 n → new ≡ xs ++ (d.0, n) ∷ []
-        → after ≡ set slots i None → IsMerging cs ds after new (i + 1)
-    merging-own d n new after found over pushed emptied =
-        more (d.0, n) new after (made-over (live_child ds c) (d.0, n) (whole-element (element_view c.0) ds d (sym slot ∙ found)) d.1
-        (config-child d found) over) pushed emptied
-
-    -- the next live child is copied, where its slot is empty
-    pub merging-copied : (x : Child) (new : List Child) (after : List (Option Child)) → o ≡ None → is_tree c.1 ≡ true → element_view x.0 ≡ element_view c.0
-        → kept x.1 ≡ kept c.1 → new ≡ xs ++ x ∷ [] → after ≡ set slots i None
-        → IsMerging cs ds after new (i + 1)
-    merging-copied x new after none tree same copy pushed emptied =
-        more x new after (made-copied (live_child ds c) x same (whole-child (element_view c.0) ds ∙ ap (option_map (λ d. d.1)) (sym slot ∙ none)) tree copy)
-        pushed emptied
-
--- behind the last place, the merged children and the new ones are the configuration's over the live ones
-pub merging-all : (cs ds : List Child) (slots : List (Option Child)) (xs new ys : List Child) (i : ℕ) → length cs ≤ i → are_trees ds ≡ true
-    → IsMerging cs ds slots xs i → new ≡ filter (is_new cs) ds → ys ≡ xs ++ new → AreOver cs ds ys
-merging-all cs ds slots xs new ys i done trees h is all = made-all cs ds xs new ys trees
-    (subst (λ l. AreMade (map (live_child ds) l) xs) (take_all i cs done) h.made) is all

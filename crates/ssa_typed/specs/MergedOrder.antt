@@ -1,5 +1,5 @@
 -- The merged order of the children of a live place and of the configuration's place.
-use Rattle.std.specs.Prelude.{◌≡◌, List, [], ◌∷◌, ◌++◌, map, filter, Bool, true, false, Option, None, Some, ℕ, suc, if◌then◌else◌}
+use Rattle.std.specs.Prelude.{◌≡◌, List, [], ◌∷◌, ◌++◌, map, filter, Bool, true, false, not, Option, None, Some, ℕ, suc, if◌then◌else◌}
 use Rattle.std.specs.Borrow.{Bor}
 use Rattle.ssa_model.specs.definitions.Path.{Element, same_element}
 use Rattle.ssa_path.specs.Children.{child_at, elements, rises}
@@ -18,6 +18,10 @@ MergedChild = Elem × (Node × Option Node)
 -- no live child has the child's element
 abbrev pub is_new : List (Elem × Node) → Elem × Node → Bool
 is_new live d = elim (child_at (element_view d.0) live) [ None ↦ true | Some c ↦ false ]
+
+-- a live child has the child's element
+abbrev pub is_old : List (Elem × Node) → Elem × Node → Bool
+is_old live d = not (is_new live d)
 
 -- a live child with the configuration's child of its element
 abbrev pub live_child : List (Elem × Node) → Elem × Node → MergedChild
@@ -52,6 +56,14 @@ places (c ∷ cs) = (c.0, 0) ∷ map next_place (places cs)
 -- an element that is lent, with its place
 abbrev pub lent_place : Bor Elem × ℕ → Elem × ℕ
 lent_place p = (p.0.now, p.1)
+
+-- of each of these children of the configuration, in turn, the live place of its element
+abbrev pub AreTurns : List (Elem × Node) → List (Elem × Node) → List ℕ → List (Elem × Node) → Type 0
+AreTurns live config [] [] = Unit {0}
+AreTurns live config [] (x ∷ xs) = ⊥
+AreTurns live config (k ∷ ks) [] = ⊥
+AreTurns live config (k ∷ ks) (x ∷ xs) =
+    (child_at (element_view x.0) (places live) ≡ Some k) × (child_at (element_view x.0) config ≡ Some x.1) × AreTurns live config ks xs
 
 -- by these, live children are found: as they stand, where their elements are apart; where they rise; or by their elements in order
 abbrev pub ArePlacesOf : List (Elem × Node) → Places → Type 0

@@ -26,7 +26,7 @@ abbrev pub HaveOver : List (Elem × Node) → List (Elem × Node) → List (Elem
 HaveOver live config cs = (e : Element) (p : Path)
     → content_in (child_at e cs) p ≡ over_content (content_in (child_at e live) p) (content_in (child_at e config) p)
 
--- children over others, the live ones first
+-- children over others, in the joined order
 pub record AreOver (live config cs : List (Elem × Node)) : Type 0 where
   pub elements_are : elements cs ≡ joined (elements live) (elements config)
   pub contents : HaveOver live config cs

@@ -174,7 +174,8 @@ impl Body {
 
     /// The configuration over this body: its content where it has the place, else this body's.
     ///
-    /// Lists keep this body's order, and what the configuration alone has follows in its order.
+    /// In a list that both have, the places that hold items of both are refilled with these items in the configuration's order; this
+    /// body's other items keep their places, and what the configuration alone has follows in its order.
     /// Takes about n log n comparisons for n children of a place. What the configuration has is moved
     /// and what it lacks is copied; where both have the same places in the same order, no memory is
     /// taken.

@@ -66,7 +66,7 @@ pub(crate) enum Places<'a> {
 
 impl<'a> Places<'a> {
     // The places of live children. To put a few in order would cost more than to look at each.
-    fn of(alloc: Global, live: &'a [(Elem, Node)]) -> Result<Places<'a>, AllocError>
+    pub(crate) fn of(alloc: Global, live: &'a [(Elem, Node)]) -> Result<Places<'a>, AllocError>
         requires { are_apart (elements live.now) ≡ true }
         ensures { IfOk result (ArePlacesOf live.now) }
     {

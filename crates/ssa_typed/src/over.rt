@@ -6,7 +6,7 @@ ghost use Rattle.ssa_typed.specs.Rows.{are_apart, are_trees, is_tree};
 
 use crate::copy::push_copy;
 use crate::in_order::stand_alike;
-use crate::merged_order::sorted_out;
+use crate::in_turn::in_turn;
 use crate::node::Node;
 use ssa_path::element::Elem;
 use std::alloc::{AllocError, Global};
@@ -36,9 +36,9 @@ fn over_alike(
     Ok(())
 }
 
-// The live children in their order, each with the configuration's child of its element over it, and
-// behind them what the configuration alone has, in its order. What the configuration has is moved,
-// and what it lacks is copied.
+// The live children at their places, but that the places of those that the configuration has too are refilled with these in its
+// order, each over the live child of its own element; and behind them what the configuration alone has, in its order. What the
+// configuration has is moved, and what it lacks is copied.
 #[cycle(over)]
 fn over_found(
     alloc: Global,
@@ -52,18 +52,22 @@ fn over_found(
     requires alike { AreAlikeBelow live.now config.old.items }
     ensures { OnOk result (AreOver live.now config.old.items config.new.items) }
 {
-    let parts = sorted_out(alloc, live, mem::replace(config, Vec::new(alloc)))?;
-    let mut beside = parts.beside;
+    let parts = in_turn(alloc, live, mem::replace(config, Vec::new(alloc)))?;
+    let places = parts.places;
+    let fill = places.as_slice();
+    let mut own = VecDeque::from(parts.own);
     let mut new = parts.new;
     let mut merged = Vec::with_capacity(alloc, live.len())?;
+    let mut next = 0;
     for (i, child) in live.iter().enumerate() {
-        let own = mem::replace(&mut beside[i], None);
-        match own {
-            Some((element, mut node)) => {
-                over_node(alloc, &child.1, &mut node)?;
-                merged.push((element, node))?;
-            }
-            None => push_copy(alloc, &child.0, &child.1, &mut merged)?,
+        if places.contains(&i) {
+            let (element, mut node) = own.pop_front().unwrap();
+            let place = fill[next];
+            over_node(alloc, &live[place].1, &mut node)?;
+            merged.push((element, node))?;
+            next += 1;
+        } else {
+            push_copy(alloc, &child.0, &child.1, &mut merged)?;
         }
     }
     merged.append(&mut new)?;

@@ -121,9 +121,14 @@ removed before after = set_of (paths before) (λ p. not (has after p))
 
 -- ---- one body over another
 
--- the order of the first, and then what the second alone has, in its order
+-- At each place of an element that moves the next of these; the others stay at their places; behind them what is left of these.
+abbrev pub laid : (Element → Bool) → List Element → List Element → List Element
+laid moves [] fs = fs
+laid moves (e ∷ es) fs = if moves e then (elim fs [ [] ↦ laid moves es [] | f ∷ rest ↦ f ∷ laid moves es rest ]) else e ∷ laid moves es fs
+
+-- The order of the first, with the elements of both in the second's order at the places of such; then what the second alone has, in its order.
 abbrev pub joined : List Element → List Element → List Element
-joined es fs = es ++ filter (λ f. not (is_among f es)) fs
+joined es fs = laid (λ e. is_among e fs) es (filter (λ f. is_among f es) fs ++ filter (λ f. not (is_among f es)) fs)
 
 -- the items of a list, and nothing elsewhere
 abbrev pub order_at : Option Content → List Element

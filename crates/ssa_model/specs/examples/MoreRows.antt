@@ -1,5 +1,5 @@
 -- More worked examples: sets, maps and atomic values, repeats, strip, and one name under two operations.
-use Rattle.std.specs.Prelude.{◌≡◌, List, [], ◌∷◌, ◌++◌, codes, false, Ok}
+use Rattle.std.specs.Prelude.{◌≡◌, List, [], ◌∷◌, ◌++◌, map, codes, false, Ok}
 use Rattle.ssa_model.specs.definitions.Json.{Text, Json, list, object, Items, no_items, item, Members, no_members, member}
 use Rattle.ssa_model.specs.definitions.Path.{field}
 use Rattle.ssa_model.specs.definitions.PathMap.{get, listed}
@@ -77,6 +77,31 @@ SetsBackAndForth =
     ∷ done (host_texts (codes "a") ∷ host_texts (codes "b") ∷ host_texts (codes "c") ∷ []) 1 [] [] ∷ [])
     × (hosts_after (host_updates ++ undo ∷ undo ∷ []) ≡ codes "v:\"b\"" ∷ codes "v:\"a\"" ∷ [])
     × (hosts_after (host_updates ++ undo ∷ undo ∷ redo ∷ redo ∷ []) ≡ codes "v:\"a\"" ∷ codes "v:\"c\"" ∷ codes "v:\"b\"" ∷ [])
+
+-- the hosts of the first of these, then of the second: theirs alone keep their places, those of both stand as the second has them, and its own follow
+abbrev pub host_list : List Text → List (List Text)
+host_list hosts = map host_texts hosts
+
+abbrev pub led_hosts : List Command
+led_hosts =
+    update (codes "u") (codes "t1") (with_hosts (codes "a" ∷ codes "b" ∷ codes "c" ∷ codes "d" ∷ []))
+    ∷ apply m1 false (codes "t2") (with_hosts (codes "d" ∷ codes "x" ∷ codes "a" ∷ [])) ∷ []
+
+-- the configuration's order leads
+abbrev pub ConfigurationLeads : Type 0
+ConfigurationLeads =
+    (replies led_hosts ≡ done (host_list (codes "a" ∷ codes "b" ∷ codes "c" ∷ codes "d" ∷ [])) 1 [] [] ∷ done (host_list (codes "x" ∷ [])) 2 [] [] ∷ [])
+    × (hosts_after led_hosts ≡ codes "v:\"d\"" ∷ codes "v:\"b\"" ∷ codes "v:\"c\"" ∷ codes "v:\"a\"" ∷ codes "v:\"x\"" ∷ [])
+    × (hosts_after (led_hosts ++ undo ∷ []) ≡ codes "v:\"a\"" ∷ codes "v:\"b\"" ∷ codes "v:\"c\"" ∷ codes "v:\"d\"" ∷ [])
+
+-- an order alone changes no manager and no moment
+abbrev pub OrderOwnsNothing : Type 0
+OrderOwnsNothing =
+    let cs = apply m1 false (codes "t1") (with_hosts (codes "a" ∷ codes "b" ∷ [])) ∷ apply m1 false (codes "t2") (with_hosts (codes "b" ∷ codes "a" ∷ [])) ∷ [] in
+    (replies cs ≡ done (host_list (codes "a" ∷ codes "b" ∷ [])) 1 [] [] ∷ done [] 1 [] [] ∷ [])
+    × (hosts_after cs ≡ codes "v:\"b\"" ∷ codes "v:\"a\"" ∷ [])
+    × (table_after cs ≡ (m1, host_list (codes "a" ∷ codes "b" ∷ []), codes "t1") ∷ [])
+    × (hosts_after (cs ++ undo ∷ []) ≡ codes "v:\"a\"" ∷ codes "v:\"b\"" ∷ [])
 
 -- live items keep their order, and the configuration's own follow
 abbrev pub LiveHostsFirst : Type 0

@@ -15,7 +15,7 @@ use Rattle.ssa_model.specs.definitions.Facts.{record_size, facts}
 use Rattle.ssa_model.specs.definitions.RecordText.{record_json}
 use Rattle.ssa_model.specs.examples.Sample.{sample_kind, string_json, port}
 use Rattle.ssa_model.specs.examples.Rows.{new_bench, shared, with_replicas, with_ports, bare_object, m1, m2, abc, port_texts}
-use Rattle.ssa_model.specs.examples.MoreRows.{three_managers, host_updates, with_hosts}
+use Rattle.ssa_model.specs.examples.MoreRows.{three_managers, host_updates, led_hosts, with_hosts}
 use Rattle.ssa_model.specs.examples.FileRows.{applied_step}
 
 -- the state after the commands
@@ -100,6 +100,10 @@ hosts_led = record {
 
 abbrev pub LedRecord : Type 0
 LedRecord = Sizes four_hosts hosts_led 6 10
+
+-- they are the states before and after such a command
+abbrev pub LedByCommand : Type 0
+LedByCommand = LastCommand (take 1 led_hosts) (apply m1 false (codes "t2") (with_hosts (codes "d" ∷ codes "x" ∷ codes "a" ∷ []))) 6 10
 
 -- ---- what is put
 

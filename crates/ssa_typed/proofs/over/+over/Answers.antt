@@ -1,14 +1,17 @@
 use Rattle.std.specs.Option.{option_to_list}
+use Rattle.std.specs.List.{list_any}
 use Rattle.std.specs.Prelude.{filter}
-use Rattle.std.proofs.Common.{◌≡◌, ◌<◌, ◌+◌, ◌*◌, ◌++◌, length, drop, get_or, Some, Less, Equal, Greater, refl, set, sym, ap, subst, subst₂, ◌∙◌, arith, rules}
-use Rattle.ssa_path.specs.Children.{elements, heads_order}
+use Rattle.std.proofs.Common.{◌≡◌, ◌<◌, ◌+◌, ◌*◌, ◌++◌, ◌∷◌, List, length, drop, get_or, nat_eq, true, false, Some, Less, Equal, Greater, refl, set, sym, ap, subst, subst₂, ◌∙◌, arith, rules}
+use Rattle.ssa_model.specs.definitions.Kind.{is_among}
+use Rattle.ssa_path.specs.Children.{child_at, elements, heads_order}
 use Rattle.ssa_path.specs.View.{element_view}
 use Rattle.ssa_path.proofs.Combining.{both-within, heads-none, own-within}
 use Rattle.ssa_path.proofs.Lists.{left-at}
-use Rattle.ssa_typed.specs.MergedOrder.{is_new}
+use Rattle.ssa_typed.specs.MergedOrder.{AreTurns, is_new, is_old}
 use Rattle.ssa_typed.specs.Rows.{below, rows, rows_below}
 use Rattle.ssa_typed.specs.declared.node.Node.TheVariants
 use Rattle.ssa_typed.proofs.Building.{Child}
+use Rattle.ssa_typed.proofs.InOneOrder.{placed-child}
 use Rattle.ssa_typed.proofs.Levels.{Children, rises-apart}
 use Rattle.ssa_typed.proofs.Lookups.{child-tree}
 use Rattle.ssa_typed.proofs.OverNodes.{below-Branch, below-Dict, below-List, children-alike, config-apart, config-trees, dict-over, dict-rises, leaf-over, list-over, live-entries-rise, live-fields-rise, left-over, live-smaller, ok-gives, order-live, over-live, record-over, record-rises}
@@ -16,8 +19,9 @@ use Rattle.ssa_typed.proofs.Overlaying.{child-at-index}
 use Rattle.ssa_typed.proofs.Pairs.{other-there, overlaid-all, overlaid-more, overlaid-order, own-there, within}
 use Rattle.ssa_typed.proofs.SideBySide.{IsOverSoFar, heads-alike, over-both, over-copied, over-end, over-moved, over-start}
 use Rattle.ssa_typed.proofs.Sizes.{larger-children}
-use Rattle.ssa_typed.proofs.SortedOut.{config-child, merging-all, merging-copied, merging-own, own-child}
-use Rattle.ssa_typed.proofs.over.+over.Goals.{over_found-in-Some+in_ok-over_node-in-Some+in_ok-push-in-Some, over_found-in-None+in_ok-push_copy-in-None}
+use Rattle.ssa_typed.proofs.SortedOut.{place-within}
+use Rattle.ssa_typed.proofs.Refilling.{IsRefilling, refilled-among, refilling-copied, refilling-end, refilling-own, refilling-start, some-come, turn-own, turn-place, turn-within}
+use Rattle.ssa_typed.proofs.over.+over.Goals.{over_found-then-contains+in_ok-over_node+in_ok-push, over_found-else-contains+in_ok-push_copy}
 use Rattle.ssa_typed.proofs.over.+over.Goals as goal
 
 pub over_alike-index_mut-own-requires : goal.over_alike-index_mut-own-requires
@@ -150,64 +154,221 @@ over_beside-returns t c =
     let none = heads-none _ _ (sym c.order_beside.ensures ∙ c.in_default.is) in
     over-end c.args.live.now c.args.config.now.items _ _ c.loop-order.merged.items none.0 none.1 c.loop-order.invariant
 
+pub over_found-loop-i-init : goal.over_found-loop-i-init
+over_found-loop-i-init t c =
+    let cs = c.args.live.now in
+    let ds = c.args.config.now.items in
+    let ks = c.as_slice-fill.result.now in
+    let own = c.from-own.result.items in
+    let lent : c.replace.result.items ≡ ds = ap (λ (v : Children). v.items) c.replace.ensures.value in
+    let own_are : own ≡ filter (is_old cs) ds = c.from-own.ensures.0 ∙ c.in_ok-parts.ensures.own ∙ ap (filter (is_old cs)) lent in
+    let turns : AreTurns cs ds ks own = subst (AreTurns cs ds ks) (sym c.from-own.ensures.0)
+    (subst₂ (λ d k. AreTurns cs d k c.in_ok-parts.parts.own.items) lent (sym c.as_slice-fill.ensures.keys) c.in_ok-parts.ensures.turns) in
+    subst (IsRefilling cs ds own ks 0 0) (sym c.in_ok-merged.ensures.items) (refilling-start cs ds own ks c.requires.apart c.requires.config_apart own_are turns)
+
+pub over_found-unwrap-element-requires : goal.over_found-unwrap-element-requires
+over_found-unwrap-element-requires t c =
+    let cs = c.args.live.now in
+    let ds = c.args.config.now.items in
+    let ks = c.as_slice-fill.result.now in
+    let l = c.loop-i in
+    let i = l.i-counter in
+    let child = c.index-live-i.result in
+    let all : List Child = c.in_ok-parts.parts.own.items in
+    let lent : c.replace.result.items ≡ ds = ap (λ (v : Children). v.items) c.replace.ensures.value in
+    let own_are : all ≡ filter (is_old cs) ds = c.in_ok-parts.ensures.own ∙ ap (filter (is_old cs)) lent in
+    let turns : AreTurns cs ds ks all = subst₂ (λ d k. AreTurns cs d k all) lent (sym c.as_slice-fill.ensures.keys) c.in_ok-parts.ensures.turns in
+    let among = refilled-among cs ds ks all i child c.requires.apart c.loop-i-test.true c.index-live-i.is own_are turns in
+    let test : list_any (nat_eq i) ks ≡ c.contains.result = ap (list_any (nat_eq i)) c.as_slice-fill.ensures.keys ∙ sym c.contains.ensures in
+    let on : is_among (element_view child.0) (elements ds) ≡ true = sym among ∙ test ∙ c.if-contains.true in
+    let more = some-come cs ds l.own.items ks i l.next l.merged.items child c.requires.apart c.loop-i-test.true c.index-live-i.is l.invariant on in
+    c.pop_front.ensures.variant.1 (omega (arith, more, l.own.ok.0))
+
+pub over_found-bounds-fill-next : goal.over_found-bounds-fill-next
+over_found-bounds-fill-next t c =
+    let cs = c.args.live.now in
+    let ds = c.args.config.now.items in
+    let ks = c.as_slice-fill.result.now in
+    let l = c.loop-i in
+    let i = l.i-counter in
+    let child = c.index-live-i.result in
+    let all : List Child = c.in_ok-parts.parts.own.items in
+    let lent : c.replace.result.items ≡ ds = ap (λ (v : Children). v.items) c.replace.ensures.value in
+    let own_are : all ≡ filter (is_old cs) ds = c.in_ok-parts.ensures.own ∙ ap (filter (is_old cs)) lent in
+    let turns : AreTurns cs ds ks all = subst₂ (λ d k. AreTurns cs d k all) lent (sym c.as_slice-fill.ensures.keys) c.in_ok-parts.ensures.turns in
+    let among = refilled-among cs ds ks all i child c.requires.apart c.loop-i-test.true c.index-live-i.is own_are turns in
+    let test : list_any (nat_eq i) ks ≡ c.contains.result = ap (list_any (nat_eq i)) c.as_slice-fill.ensures.keys ∙ sym c.contains.ensures in
+    let d = c.unwrap-element.result in
+    let later = c.pop_front.new.self.items in
+    let comes : l.own.items ≡ d ∷ later = c.pop_front.ensures.items ∙ ap (λ o. option_to_list o ++ later) c.unwrap-element.ensures in
+    let within : l.next < length ks = turn-within cs ds l.own.items ks i l.next l.merged.items child c.requires.apart c.loop-i-test.true c.index-live-i.is
+    l.invariant d later comes in
+    within
+
+pub over_found-offset_bounds-fill-next : goal.over_found-offset_bounds-fill-next
+over_found-offset_bounds-fill-next t c =
+    let cs = c.args.live.now in
+    let ds = c.args.config.now.items in
+    let ks = c.as_slice-fill.result.now in
+    let l = c.loop-i in
+    let i = l.i-counter in
+    let child = c.index-live-i.result in
+    let all : List Child = c.in_ok-parts.parts.own.items in
+    let lent : c.replace.result.items ≡ ds = ap (λ (v : Children). v.items) c.replace.ensures.value in
+    let own_are : all ≡ filter (is_old cs) ds = c.in_ok-parts.ensures.own ∙ ap (filter (is_old cs)) lent in
+    let turns : AreTurns cs ds ks all = subst₂ (λ d k. AreTurns cs d k all) lent (sym c.as_slice-fill.ensures.keys) c.in_ok-parts.ensures.turns in
+    let among = refilled-among cs ds ks all i child c.requires.apart c.loop-i-test.true c.index-live-i.is own_are turns in
+    let test : list_any (nat_eq i) ks ≡ c.contains.result = ap (list_any (nat_eq i)) c.as_slice-fill.ensures.keys ∙ sym c.contains.ensures in
+    let d = c.unwrap-element.result in
+    let later = c.pop_front.new.self.items in
+    let comes : l.own.items ≡ d ∷ later = c.pop_front.ensures.items ∙ ap (λ o. option_to_list o ++ later) c.unwrap-element.ensures in
+    let within : l.next < length ks = turn-within cs ds l.own.items ks i l.next l.merged.items child c.requires.apart c.loop-i-test.true c.index-live-i.is
+    l.invariant d later comes in
+    omega arith
+
+pub over_found-bounds-live-place : goal.over_found-bounds-live-place
+over_found-bounds-live-place t c =
+    let cs = c.args.live.now in
+    let ds = c.args.config.now.items in
+    let ks = c.as_slice-fill.result.now in
+    let l = c.loop-i in
+    let i = l.i-counter in
+    let child = c.index-live-i.result in
+    let all : List Child = c.in_ok-parts.parts.own.items in
+    let lent : c.replace.result.items ≡ ds = ap (λ (v : Children). v.items) c.replace.ensures.value in
+    let own_are : all ≡ filter (is_old cs) ds = c.in_ok-parts.ensures.own ∙ ap (filter (is_old cs)) lent in
+    let turns : AreTurns cs ds ks all = subst₂ (λ d k. AreTurns cs d k all) lent (sym c.as_slice-fill.ensures.keys) c.in_ok-parts.ensures.turns in
+    let among = refilled-among cs ds ks all i child c.requires.apart c.loop-i-test.true c.index-live-i.is own_are turns in
+    let test : list_any (nat_eq i) ks ≡ c.contains.result = ap (list_any (nat_eq i)) c.as_slice-fill.ensures.keys ∙ sym c.contains.ensures in
+    let d = c.unwrap-element.result in
+    let later = c.pop_front.new.self.items in
+    let comes : l.own.items ≡ d ∷ later = c.pop_front.ensures.items ∙ ap (λ o. option_to_list o ++ later) c.unwrap-element.ensures in
+    let within : l.next < length ks = turn-within cs ds l.own.items ks i l.next l.merged.items child c.requires.apart c.loop-i-test.true c.index-live-i.is
+    l.invariant d later comes in
+    let placed = turn-place cs ds l.own.items ks i l.next l.merged.items child c.requires.apart c.loop-i-test.true c.index-live-i.is l.invariant d later comes 0 in
+    place-within (element_view d.0) cs (get_or ks l.next 0) placed
+
+pub over_found-offset_bounds-live-place : goal.over_found-offset_bounds-live-place
+over_found-offset_bounds-live-place t c =
+    let cs = c.args.live.now in
+    let ds = c.args.config.now.items in
+    let ks = c.as_slice-fill.result.now in
+    let l = c.loop-i in
+    let i = l.i-counter in
+    let child = c.index-live-i.result in
+    let all : List Child = c.in_ok-parts.parts.own.items in
+    let lent : c.replace.result.items ≡ ds = ap (λ (v : Children). v.items) c.replace.ensures.value in
+    let own_are : all ≡ filter (is_old cs) ds = c.in_ok-parts.ensures.own ∙ ap (filter (is_old cs)) lent in
+    let turns : AreTurns cs ds ks all = subst₂ (λ d k. AreTurns cs d k all) lent (sym c.as_slice-fill.ensures.keys) c.in_ok-parts.ensures.turns in
+    let among = refilled-among cs ds ks all i child c.requires.apart c.loop-i-test.true c.index-live-i.is own_are turns in
+    let test : list_any (nat_eq i) ks ≡ c.contains.result = ap (list_any (nat_eq i)) c.as_slice-fill.ensures.keys ∙ sym c.contains.ensures in
+    let d = c.unwrap-element.result in
+    let later = c.pop_front.new.self.items in
+    let comes : l.own.items ≡ d ∷ later = c.pop_front.ensures.items ∙ ap (λ o. option_to_list o ++ later) c.unwrap-element.ensures in
+    let within : l.next < length ks = turn-within cs ds l.own.items ks i l.next l.merged.items child c.requires.apart c.loop-i-test.true c.index-live-i.is
+    l.invariant d later comes in
+    let placed = turn-place cs ds l.own.items ks i l.next l.merged.items child c.requires.apart c.loop-i-test.true c.index-live-i.is l.invariant d later comes 0 in
+    let there = place-within (element_view d.0) cs (get_or ks l.next 0) placed in
+    omega arith
+
 pub over_found-over_node-requires : goal.over_found-over_node-requires
 over_found-over_node-requires t c =
     let cs = c.args.live.now in
     let ds = c.args.config.now.items in
-    let slots = c.loop-i.beside.items in
-    let xs = c.loop-i.merged.items in
-    let i = c.loop-i.i in
+    let ks = c.as_slice-fill.result.now in
+    let l = c.loop-i in
+    let i = l.i-counter in
     let child = c.index-live-i.result in
-    let e = element_view child.0 in
-    let d : Child = (c.in-Some.element, c.in-Some.node) in
-    let own = own-child cs ds slots xs i child c.index_mut.result.now c.requires.apart c.loop-i-test.true c.index-live-i.is c.loop-i.invariant in
-    let other = config-child cs ds slots xs i child c.index_mut.result.now c.requires.apart c.loop-i-test.true c.index-live-i.is c.loop-i.invariant
-    c.index_mut.ensures.value d (sym c.in-Some.ensures.value) in
-    let part = larger-children e cs child.1 own in
-    let small : 4 * length (rows child.1) < 4 * length (rows_below cs) + 1 = omega arith in (
+    let all : List Child = c.in_ok-parts.parts.own.items in
+    let lent : c.replace.result.items ≡ ds = ap (λ (v : Children). v.items) c.replace.ensures.value in
+    let own_are : all ≡ filter (is_old cs) ds = c.in_ok-parts.ensures.own ∙ ap (filter (is_old cs)) lent in
+    let turns : AreTurns cs ds ks all = subst₂ (λ d k. AreTurns cs d k all) lent (sym c.as_slice-fill.ensures.keys) c.in_ok-parts.ensures.turns in
+    let among = refilled-among cs ds ks all i child c.requires.apart c.loop-i-test.true c.index-live-i.is own_are turns in
+    let test : list_any (nat_eq i) ks ≡ c.contains.result = ap (list_any (nat_eq i)) c.as_slice-fill.ensures.keys ∙ sym c.contains.ensures in
+    let d = c.unwrap-element.result in
+    let later = c.pop_front.new.self.items in
+    let comes : l.own.items ≡ d ∷ later = c.pop_front.ensures.items ∙ ap (λ o. option_to_list o ++ later) c.unwrap-element.ensures in
+    let within : l.next < length ks = turn-within cs ds l.own.items ks i l.next l.merged.items child c.requires.apart c.loop-i-test.true c.index-live-i.is
+    l.invariant d later comes in
+    let placed = turn-place cs ds l.own.items ks i l.next l.merged.items child c.requires.apart c.loop-i-test.true c.index-live-i.is l.invariant d later comes 0 in
+    let e = element_view d.0 in
+    let x = get_or cs (get_or ks l.next 0) c.index-live-place.result in
+    let own : child_at e cs ≡ Some x.1 = placed-child e cs (get_or ks l.next 0) c.index-live-place.result placed in
+    let other = turn-own cs ds l.own.items ks i l.next l.merged.items child c.requires.apart c.loop-i-test.true c.index-live-i.is l.invariant d later comes in
+    let part = larger-children e cs x.1 own in
+    let small : 4 * length (rows x.1) < 4 * length (rows_below cs) + 1 = omega arith in (
       search (rules, small),
-      (
-        child-tree e cs child.1 c.requires.live own,
-        (
-          child-tree e ds d.1 c.requires.config other,
-          c.requires.alike e child.1 d.1 own
-              other,
-        ),
-      ),
+      (child-tree e cs x.1 c.requires.live own, (child-tree e ds d.1 c.requires.config other, c.requires.alike e x.1 d.1 own other)),
     )
+
+pub over_found-overflow_add-next : goal.over_found-overflow_add-next
+over_found-overflow_add-next t c =
+    let cs = c.args.live.now in
+    let ds = c.args.config.now.items in
+    let ks = c.as_slice-fill.result.now in
+    let l = c.loop-i in
+    let i = l.i-counter in
+    let child = c.index-live-i.result in
+    let all : List Child = c.in_ok-parts.parts.own.items in
+    let lent : c.replace.result.items ≡ ds = ap (λ (v : Children). v.items) c.replace.ensures.value in
+    let own_are : all ≡ filter (is_old cs) ds = c.in_ok-parts.ensures.own ∙ ap (filter (is_old cs)) lent in
+    let turns : AreTurns cs ds ks all = subst₂ (λ d k. AreTurns cs d k all) lent (sym c.as_slice-fill.ensures.keys) c.in_ok-parts.ensures.turns in
+    let among = refilled-among cs ds ks all i child c.requires.apart c.loop-i-test.true c.index-live-i.is own_are turns in
+    let test : list_any (nat_eq i) ks ≡ c.contains.result = ap (list_any (nat_eq i)) c.as_slice-fill.ensures.keys ∙ sym c.contains.ensures in
+    let d = c.unwrap-element.result in
+    let later = c.pop_front.new.self.items in
+    let comes : l.own.items ≡ d ∷ later = c.pop_front.ensures.items ∙ ap (λ o. option_to_list o ++ later) c.unwrap-element.ensures in
+    let within : l.next < length ks = turn-within cs ds l.own.items ks i l.next l.merged.items child c.requires.apart c.loop-i-test.true c.index-live-i.is
+    l.invariant d later comes in
+    omega arith
 
 pub over_found-loop-i-preserved : goal.over_found-loop-i-preserved
 over_found-loop-i-preserved t c =
     let cs = c.args.live.now in
     let ds = c.args.config.now.items in
-    let slots = c.loop-i.beside.items in
-    let xs = c.loop-i.merged.items in
-    let i = c.loop-i.i in
+    let ks = c.as_slice-fill.result.now in
+    let l = c.loop-i in
+    let i = l.i-counter in
     let child = c.index-live-i.result in
-    let o = c.index_mut.result.now in
-    let merging = c.loop-i.invariant in
-    let emptied = ap (set slots i) c.replace-own.ensures.after in
-    elim c.match-own.branch [
-      | over_found-in-Some+in_ok-over_node-in-Some+in_ok-push-in-Some w ↦
-          let pushed = ap (λ (v : Children). v.items) w.merged-is ∙ w.in_ok-push-in-Some.ensures.items in
-          merging-own cs ds slots xs i child o c.requires.apart c.loop-i-test.true c.index-live-i.is merging c.index_mut.ensures.value
-          (w.in-Some.element, w.in-Some.node) w.over_node.new.config c.match-own.merged.items _ (sym w.in-Some.ensures.value)
-          w.in_ok-over_node-in-Some.ensures pushed emptied
-      | over_found-in-None+in_ok-push_copy-in-None w ↦
-          let own = own-child cs ds slots xs i child o c.requires.apart c.loop-i-test.true c.index-live-i.is merging in
-          let x = w.in_ok-push_copy-in-None.ensures in
+    let all : List Child = c.in_ok-parts.parts.own.items in
+    let lent : c.replace.result.items ≡ ds = ap (λ (v : Children). v.items) c.replace.ensures.value in
+    let own_are : all ≡ filter (is_old cs) ds = c.in_ok-parts.ensures.own ∙ ap (filter (is_old cs)) lent in
+    let turns : AreTurns cs ds ks all = subst₂ (λ d k. AreTurns cs d k all) lent (sym c.as_slice-fill.ensures.keys) c.in_ok-parts.ensures.turns in
+    let among = refilled-among cs ds ks all i child c.requires.apart c.loop-i-test.true c.index-live-i.is own_are turns in
+    let test : list_any (nat_eq i) ks ≡ c.contains.result = ap (list_any (nat_eq i)) c.as_slice-fill.ensures.keys ∙ sym c.contains.ensures in
+    elim c.if-contains.branch [
+      | over_found-then-contains+in_ok-over_node+in_ok-push w ↦
+          let on : is_among (element_view child.0) (elements ds) ≡ true = sym among ∙ test ∙ w.if-contains.true in
+          let d : Child = w.unwrap-element.result in
+          let later : List Child = w.pop_front.new.self.items in
+          let comes : l.own.items ≡ d ∷ later = w.pop_front.ensures.items ∙ ap (λ o. option_to_list o ++ later) w.unwrap-element.ensures in
+          let placed = turn-place cs ds l.own.items ks i l.next l.merged.items child c.requires.apart c.loop-i-test.true c.index-live-i.is l.invariant d later
+          comes 0 in
+          let b = get_or cs (get_or ks l.next 0) w.index-live-place.result in
+          let own = placed-child (element_view d.0) cs (get_or ks l.next 0) w.index-live-place.result placed in
+          let pushed = ap (λ (v : Children). v.items) w.merged-is ∙ w.in_ok-push.ensures.items in
+          let left : c.if-contains.own.items ≡ later = cc in
+          subst₂ (λ q n. IsRefilling cs ds q ks (i + 1) n c.if-contains.merged.items) (sym left) (sym w.next-is)
+          (refilling-own cs ds l.own.items ks i l.next l.merged.items child c.requires.apart c.loop-i-test.true c.index-live-i.is l.invariant d later comes
+          b.1 (d.0, w.over_node.new.config) c.if-contains.merged.items on own w.in_ok-over_node.ensures refl pushed)
+      | over_found-else-contains+in_ok-push_copy w ↦
+          let off : is_among (element_view child.0) (elements ds) ≡ false = sym among ∙ test ∙ w.if-contains.false in
+          let x = w.in_ok-push_copy.ensures in
           let pushed = ap (λ (v : Children). v.items) w.merged-is ∙ x.3 in
-          merging-copied cs ds slots xs i child o c.requires.apart c.loop-i-test.true c.index-live-i.is merging c.index_mut.ensures.value
-          x.0 c.match-own.merged.items _ (sym w.in-None.ensures.value) (child-tree (element_view child.0) cs child.1 c.requires.live own)
-          x.1 x.2 pushed emptied
+          let own = child-at-index cs i child c.loop-i-test.true c.index-live-i.is c.requires.apart in
+          let left : c.if-contains.own.items ≡ l.own.items = cc in
+          subst₂ (λ q n. IsRefilling cs ds q ks (i + 1) n c.if-contains.merged.items) (sym left) (sym w.next-is)
+          (refilling-copied cs ds l.own.items ks i l.next l.merged.items child c.requires.apart c.loop-i-test.true c.index-live-i.is l.invariant x.0
+          c.if-contains.merged.items off (child-tree (element_view child.0) cs child.1 c.requires.live own) x.1 x.2 pushed)
     ]
 
 pub over_found-returns : goal.over_found-returns
 over_found-returns t c =
     let cs = c.args.live.now in
+    let ds = c.args.config.now.items in
     let new = c.in_ok-parts.ensures.new ∙ ap (λ (v : Children). filter (is_new cs) v.items) c.replace.ensures.value in
-    merging-all cs c.args.config.now.items c.loop-i.beside.items c.loop-i.merged.items c.in_ok-parts.parts.new.items c.append.new.self.items
-    c.loop-i.i c.loop-i-test.false c.requires.config c.loop-i.invariant new c.in_ok-append.ensures.items
+    refilling-end cs ds c.loop-i.own.items c.as_slice-fill.result.now c.loop-i.i-counter c.loop-i.next c.loop-i.merged.items c.in_ok-parts.parts.new.items
+    c.append.new.self.items c.loop-i-test.false c.requires.config_apart c.requires.config c.loop-i.invariant new c.in_ok-append.ensures.items
 
 pub over_node-returns-in-Leaf : goal.over_node-returns-in-Leaf
 over_node-returns-in-Leaf t c =

@@ -1,8 +1,8 @@
 use Rattle.std.proofs.Common.{◌+◌, ◌-◌, ◌*◌, drop, length}
 use Rattle.ssa_typed.specs.Rows.{rows, rows_below}
 use Rattle.ssa_typed.proofs.Pairs.{IsOverlaid}
+use Rattle.ssa_typed.proofs.Refilling.{IsRefilling}
 use Rattle.ssa_typed.proofs.SideBySide.{IsOverSoFar}
-use Rattle.ssa_typed.proofs.SortedOut.{IsMerging}
 use Rattle.ssa_typed.proofs.over.+over.Given as goal
 
 abbrev pub decreases-over_alike : goal.decreases-over_alike
@@ -29,7 +29,7 @@ invariant-over_alike-loop-i l =
 
 abbrev pub invariant-over_found-loop-i : goal.invariant-over_found-loop-i
 invariant-over_found-loop-i l =
-    IsMerging l.live l.fn.config.items l.beside.items l.merged.items l.i
+    IsRefilling l.live l.fn.config.items l.own.items l.fill l.i-counter l.next l.merged.items
 
 abbrev pub invariant-over_beside-loop-order : goal.invariant-over_beside-loop-order
 invariant-over_beside-loop-order l =

@@ -1,0 +1,6 @@
+use Rattle.std.specs.Vec.Iter.{into_iter_items}
+use Rattle.ssa_typed.proofs.Refilling.{IsTurning}
+use Rattle.ssa_typed.proofs.in_turn.in_turn.Given as goal
+
+abbrev pub invariant-loop-child : goal.invariant-loop-child
+invariant-loop-child l = IsTurning l.live l.fn.config.items (into_iter_items l.child-iterator) l.places.keys l.own.items l.new.items
