@@ -125,7 +125,7 @@ module _ (fs : Fields) (ms : Members) (fits : FieldsFit fs ms) (once : fields_on
 
   body_rooted : IsRooted body
   body_rooted = record {
-    root = ap is_leaf root_is;
+    root = root_is;
     metadata = apart_by (has (points body) metadata_path) (λ t.
         let both = sym (has-points body metadata_path) ∙ t in
         yes_no (is_point body metadata_path) (second_so (has body metadata_path) _ both) (no_point (first_so _ (is_point body metadata_path) both)));

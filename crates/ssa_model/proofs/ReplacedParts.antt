@@ -219,7 +219,7 @@ module _ (v : Body) (p : Path) (b : Body) (rooted : IsRooted v) (here : has v p 
 
   -- the body with the part is rooted
   pub rooted-replaced : IsRooted new
-  rooted-replaced = record { root = ap is_leaf (get-outside v p b [] off-root) ∙ rooted.root; metadata = no-point }
+  rooted-replaced = record { root = get-outside v p b [] off-root ∙ rooted.root; metadata = no-point }
 
 -- a rooted body is rooted again with a part that has a root, at a path that is neither the root nor `metadata`
 pub replaced_is_rooted : ReplacedIsRooted

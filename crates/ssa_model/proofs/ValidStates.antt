@@ -1,6 +1,6 @@
 -- Each operation that a valid state takes leads to a valid state.
 use Rattle.std.proofs.Common.{◌≡◌, ◌≤◌, [], ◌∷◌, Bool, true, false, not, ◌&&◌, ◌||◌, refl, sym, ap, subst, ◌∙◌, true≢false}
-use Rattle.std.specs.Prelude.{Option, Some, if◌then◌else◌, codes}
+use Rattle.std.specs.Prelude.{Option, Some, option_map, if◌then◌else◌, codes}
 use Rattle.std.specs.List.{list_any}
 use Rattle.std.specs.Cmp.{first_so, second_so}
 use Rattle.ssa_model.specs.definitions.Limits.{most_places}
@@ -8,14 +8,14 @@ use Rattle.ssa_model.specs.definitions.Path.{Path, field, same_element, is_root,
 use Rattle.ssa_model.specs.definitions.PathMap.{PathSet, get, has, paths, union, has_at_or_below, has_at_or_above, size}
 use Rattle.ssa_model.specs.definitions.Kind as kinds
 use Rattle.ssa_model.specs.definitions.Kind.{Kind, scalar_kind, atomic_of, record_of, dict_of, items_of}
-use Rattle.ssa_model.specs.definitions.Body.{Content, leaf, atom, record_branch, dict_branch, list_branch, Body, is_leaf, is_dict, is_bare, is_point, points, over, strictly_under}
+use Rattle.ssa_model.specs.definitions.Body.{Content, leaf, atom, record_branch, dict_branch, list_branch, Body, is_leaf, is_dict, is_bare, is_point, points, over, over_content, restricted_content, strictly_under}
 use Rattle.ssa_model.specs.definitions.Table.{ManagerKey, Table, same_manager, owned_by_others}
 use Rattle.ssa_model.specs.definitions.Operations.{State, kept, pruned, dropped}
 use Rattle.ssa_model.specs.definitions.Fitting.{Place, of_kind, item_of, value_of, content_fits, IsBodyOf}
 use Rattle.ssa_model.specs.definitions.Valid.{OwnedOwnable, OwnsOwnable, AllEntries, IsRooted, metadata_path, IsValidState}
 use Rattle.ssa_model.specs.laws.KeepsValid.{ApplyKeepsValid, UpdateKeepsValid, StripKeepsValid}
 use Rattle.ssa_model.proofs.Accepted.{applied_is, updated_is}
-use Rattle.ssa_model.proofs.PathMaps.{has-set_of, has-union, has-points, has-paths, is_one_of}
+use Rattle.ssa_model.proofs.PathMaps.{get-over, get-restricted, has-set_of, has-union, has-points, has-paths, is_one_of}
 use Rattle.ssa_model.proofs.Tables.{apart_by, true_or, either, ownable-has, leaf-point, leaf-has, has-over, has-restricted, kept-stays, spared, apply_keeps, update_keeps, strip_keeps}
 use Rattle.ssa_model.proofs.Fitting.{some_place, some_there, same_element-true, over_fits}
 use Rattle.ssa_model.proofs.Pruned.{some_one, from_one, pruned_fits}
@@ -204,7 +204,8 @@ module _ (kind : Kind) (state : State) (a : ManagerKey) (config : Body) (valid :
 
   after_rooted : IsRooted after
   after_rooted = record {
-    root = same_test is_leaf is_leaf_place leaf_place kind after state.body after_fits valid.fits [] after_fits.root valid.fits.root ∙ valid.rooted.root;
+    root = get-restricted merged stays [] ∙ ap (option_map (restricted_content stays []))
+        (get-over state.body config [] ∙ (λ i. over_content (valid.rooted.root i) (rooted.root i)));
     metadata = apart_by (has (points after) metadata_path) (λ t.
         let there = first_so (has after metadata_path) (is_point after metadata_path) (sym (has-points after metadata_path) ∙ t) in
         let x = some_one (under metadata_path) (paths stay) (staying there) in

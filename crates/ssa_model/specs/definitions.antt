@@ -14,6 +14,8 @@ pub mod Kind
 pub mod Schema
 -- bodies: values flattened to whole paths; points, comparison, merging, restriction
 pub mod Body
+-- the parts of an object
+pub mod Parts
 -- managers, and the table after a command
 pub mod Table
 -- given-up paths, pruning, clashes: Apply, Update and strip over whole states

@@ -36,3 +36,4 @@ pub mod LeadingTexts
 pub mod PathTexts
 pub mod NestedTexts
 pub mod WrittenPaths
+pub mod InPart

@@ -17,3 +17,4 @@ pub mod FieldsBack
 pub mod FaultCodes
 pub mod TopPaths
 pub mod SortKeys
+pub mod Subresources

@@ -3,14 +3,17 @@ ghost use Rattle.std.specs.Prelude.{◌≡◌, ◌-◌, ◌^◌, true, not, min,
 ghost use Rattle.ssa_model.specs.definitions.Path.{is_key_field, same_path};
 ghost use Rattle.ssa_model.specs.definitions.PathMap.{empty, has, has_at_or_above, has_at_or_below, insert, is_empty, minus, same_set, set_of, size, union, listed};
 ghost use Rattle.ssa_model.specs.definitions.PathMap as set;
+ghost use Rattle.ssa_model.specs.definitions.Parts.{is_path_of};
 ghost use Rattle.ssa_path.specs.Meet.{meet, combined};
 ghost use Rattle.ssa_path.specs.Listing.{ways_view};
+ghost use Rattle.ssa_path.specs.Subresources.{part_view};
 ghost use Rattle.ssa_path.specs.Trie.{is_trie, paths};
 
 use crate::combine::{Combination, combine};
 use crate::element::Elem;
 use crate::key_fields::take_out_key_fields;
 use crate::listing::{copy_ways, count_paths, list_ways};
+use crate::part::Part;
 use crate::path::Path;
 use crate::same::same_tries;
 use crate::taking_out::take_out_over;
@@ -245,6 +248,25 @@ impl FieldSet {
     {
         let here = self.root.here;
         take_out_key_fields(&mut self.root, &[], here);
+    }
+
+    /// Takes out the paths that are not of the part. Takes no memory.
+    pub fn keep_part(&mut self, part: Part)
+        ensures { self.new ≡ set_of (set.paths self.old) (is_path_of (part_view part)) }
+    {
+        part.keep_paths(&mut self.root);
+    }
+
+    /// The paths that are not of the part. Where all are, as mostly, no memory is taken.
+    pub fn outside(&self, alloc: Global, part: Part) -> Result<FieldSet, AllocError>
+        ensures { IfOk result (λ s. s ≡ set_of (set.paths self.now) (λ p. not (is_path_of (part_view part) p))) }
+    {
+        if part.has_all(&self.root) {
+            return Ok(FieldSet::new(alloc));
+        }
+        let mut outside = self.copy(alloc)?;
+        outside.keep_part(part.other());
+        Ok(outside)
     }
 
     /// The paths of the set, in path order.

@@ -1,10 +1,10 @@
 -- Valid tables, states and histories.
-use Rattle.std.specs.Prelude.{◌<◌, ◌≡◌, ◌≤◌, [], ◌∷◌, Bool, true, false, not, ◌&&◌, List, map, filter, length, codes}
+use Rattle.std.specs.Prelude.{◌<◌, ◌≡◌, ◌≤◌, [], ◌∷◌, Bool, true, false, not, ◌&&◌, List, map, filter, length, Some, codes}
 use Rattle.ssa_model.specs.definitions.Limits.{most_places, most_managers, most_past}
 use Rattle.ssa_model.specs.definitions.Path.{Path, field}
 use Rattle.ssa_model.specs.definitions.PathMap.{PathSet, get, has, is_empty, size}
 use Rattle.ssa_model.specs.definitions.Kind.{Kind}
-use Rattle.ssa_model.specs.definitions.Body.{Body, is_leaf, points, is_ownable}
+use Rattle.ssa_model.specs.definitions.Body.{Body, record_branch, points, is_ownable}
 use Rattle.ssa_model.specs.definitions.Table.{ManagerKey, Entry, Table, is_in_table}
 use Rattle.ssa_model.specs.definitions.Fitting.{IsBodyOf}
 use Rattle.ssa_model.specs.definitions.Operations.{State}
@@ -41,9 +41,9 @@ pub record IsTable (body : Body) (table : Table) : Type 0 where
 abbrev pub metadata_path : Path
 metadata_path = field (codes "metadata") ∷ []
 
--- The root is a branch, and so is `metadata`, which has something below it where it is there.
+-- The root is a record, and so is `metadata`, which has something below it where it is there.
 pub record IsRooted (body : Body) : Type 0 where
-  pub root : is_leaf (get body []) ≡ false
+  pub root : get body [] ≡ Some record_branch
   pub metadata : has (points body) metadata_path ≡ false
 
 -- what a valid state asks of its body
