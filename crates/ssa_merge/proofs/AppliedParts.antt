@@ -110,7 +110,7 @@ module _ (state : State) (a : ManagerKey) (config : model.Body) (config_told : P
       → IsRooted (applied state.body config gone)
   applied-rooted gone is own part told alike rooted config_rooted owned =
       subst IsRooted (sym (applied-pruned gone is own part))
-      (pruned-rooted state a config config_rooted (over-rooted state.body config alike rooted config_rooted (told []) (config_told [])) owned)
+      (pruned-rooted state a config config_rooted (over-rooted state.body config rooted config_rooted) owned)
 
   -- where nothing is given up, nothing is lost
   pub none-given-up : (gone : PathSet) → gone ≡ dropped state a config → is_empty gone ≡ true → PointsTellPlaces state.body

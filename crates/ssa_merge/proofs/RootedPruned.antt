@@ -2,11 +2,11 @@
 use Rattle.std.proofs.Common.{◌≡◌, [], ◌∷◌, Bool, true, false, not, ◌&&◌, ◌||◌, refl, sym, ap, ◌∙◌, true≢false}
 use Rattle.std.specs.Cmp.{first_so, second_so}
 use Rattle.std.specs.List.{list_any}
-use Rattle.std.specs.Prelude.{if◌then◌else◌}
+use Rattle.std.specs.Prelude.{option_map, if◌then◌else◌}
 use Rattle.ssa_model.specs.definitions.Path.{Path, is_root, same_element, under}
 use Rattle.ssa_model.specs.definitions.PathMap.{PathSet, get, has, has_at_or_above, has_at_or_below, paths, union}
 use Rattle.ssa_model.specs.definitions.Body as model
-use Rattle.ssa_model.specs.definitions.Body.{Content, leaf, atom, record_branch, dict_branch, list_branch, is_dict, is_leaf, is_ownable, is_point, over, points, restricted_content, strictly_under}
+use Rattle.ssa_model.specs.definitions.Body.{is_leaf, is_ownable, is_point, over, points, restricted_content, strictly_under}
 use Rattle.ssa_model.specs.definitions.Table.{ManagerKey, Table, owned_by_others, same_manager}
 use Rattle.ssa_model.specs.definitions.Operations.{State, dropped, kept, pruned}
 use Rattle.ssa_model.specs.definitions.Valid.{AllEntries, IsRooted, OwnsOwnable, metadata_path}
@@ -14,8 +14,8 @@ use Rattle.ssa_model.proofs.PathMaps.{get-restricted, has-paths, has-points, has
 use Rattle.ssa_model.proofs.Fitting.{same_element-true}
 use Rattle.ssa_model.proofs.Pruned.{from_one, some_one}
 use Rattle.ssa_model.proofs.Tables.{either, has-over, has-restricted, kept-stays, ownable-has, spared, true_or}
-use Rattle.ssa_model.proofs.ValidStates.{in_no_dict, no_leaf}
-use Rattle.ssa_typed.proofs.RootedBodies.{part-dict, part-leaf, rooted-by}
+use Rattle.ssa_model.proofs.ValidStates.{no_leaf}
+use Rattle.ssa_typed.proofs.RootedBodies.{part-leaf, rooted-by}
 use Rattle.ssa_typed.proofs.Stands.{one_level}
 use Rattle.ssa_model.proofs.Basics.{or_true, yes_no}
 
@@ -102,13 +102,7 @@ module _ (state : State) (a : ManagerKey) (config : model.Body) (rooted : IsRoot
   pub pruned-rooted : IsRooted after
   pruned-rooted =
       rooted-by after
-      (ap is_leaf (get-restricted merged stays []) ∙ part-leaf stays [] (stays []) (get merged []) joined.root)
+      (get-restricted merged stays [] ∙ ap (option_map (restricted_content stays [])) joined.root)
       (ap is_leaf (get-restricted merged stays metadata_path)
       ∙ part-leaf stays metadata_path (stays metadata_path) (get merged metadata_path) (no_leaf merged joined))
-      (λ there. (
-        ap is_dict (get-restricted merged stays [])
-            ∙ part-dict stays [] (stays []) (get merged [])
-            (in_no_dict merged joined
-            (second_so (stays metadata_path) (has merged metadata_path) (sym (has-restricted merged stays metadata_path) ∙ there))),
-        below there,
-      ))
+      below

@@ -1,10 +1,12 @@
 -- The children and the paths of a part.
-use Rattle.std.proofs.Common.{◌≡◌, List, [], ◌∷◌, Bool, true, false, not, ◌&&◌, cond, Option, Some, None, refl, sym, ap, ◌∙◌, true≢false}
-use Rattle.std.specs.Prelude.{filter, if◌then◌else◌}
-use Rattle.std.specs.List.{All}
+use Rattle.std.proofs.Common.{◌≡◌, List, [], ◌∷◌, Bool, true, false, not, ◌&&◌, cond, Some, None, refl, sym, ap, ◌∙◌, true≢false}
+use Rattle.std.specs.Prelude.{filter}
 use Rattle.std.specs.Ordering.{is_lt}
-use Rattle.ssa_model.specs.definitions.Parts.{Subresource, main, status, is_path_of}
-use Rattle.ssa_model.specs.definitions.Path.{Element, Path, element_cmp, same_element, same_path}
+use Rattle.ssa_model.specs.definitions.Parts.{Subresource, main, status, status_path, is_path_of}
+use Rattle.ssa_model.specs.definitions.Path.{Element, Path, element_cmp, same_element, same_path, under}
+use Rattle.ssa_model.specs.definitions.PathMap.{empty, listed, set_of, paths as set_paths}
+use Rattle.ssa_model.proofs.Lists.{has-listed}
+use Rattle.ssa_model.proofs.PathMaps.{has-paths, has-set_of, same_sets}
 use Rattle.ssa_model.proofs.Basics.{and-true as and_true, and-false as and_false, both-true as both}
 use Rattle.ssa_model.proofs.Fitting.{same_element-true}
 use Rattle.ssa_model.proofs.Tables.{either}
@@ -13,7 +15,7 @@ use Rattle.ssa_path.specs.declared.element.Elem.{Elem}
 use Rattle.ssa_path.specs.declared.trie.Trie.{Trie}
 use Rattle.ssa_path.specs.declared.trie.Trie.TheOpen.{Trie-F}
 use Rattle.ssa_path.specs.declared.trie.Trie.TheViews.{out-Trie, roll-Trie}
-use Rattle.ssa_path.specs.Subresources.{in_part, other_part, IsPartOf, LiesIn}
+use Rattle.ssa_path.specs.Subresources.{are_in_part, in_part, other_part, IsPartOf, LiesIn}
 use Rattle.ssa_path.specs.Trie.{are_filled_tries, is_filled, is_one_of, is_trie, paths, paths_below}
 use Rattle.ssa_path.specs.View.{element_view}
 use Rattle.ssa_path.proofs.Levels.{any-below, any-child, any-level, any-made, any-paths, found, is_trie-made, one-level-root, one-made-root, same_path-reading, trie-parts}
@@ -140,19 +142,33 @@ module _ (s : Subresource) (old : Trie) (x : Trie-F Trie) (tree : is_trie old �
 
 -- ---- all paths are of a part
 
--- children that are all of the part
-abbrev pub AllOf : Subresource → List (Elem × Trie) → Type 0
-AllOf s cs = All (λ (c : Elem × Trie). is_path_of s (element_view c.0 ∷ []) ≡ true) cs
-
-child-of : (s : Subresource) (cs : List (Elem × Trie)) → AllOf s cs → (e : Element) (p : Path) → is_one_of (paths_below cs) (e ∷ p) ≡ true → is_path_of s (e ∷ []) ≡ true
+child-of : (s : Subresource) (cs : List (Elem × Trie)) → are_in_part s cs ≡ true → (e : Element) (p : Path) → is_one_of (paths_below cs) (e ∷ p) ≡ true
+    → is_path_of s (e ∷ []) ≡ true
 child-of s [] all e p there = absurd (true≢false (sym there))
 child-of s (c ∷ cs) all e p there =
     let f = element_view c.0 in
     either (same_element e f && is_one_of (paths c.1) p) (is_one_of (paths_below cs) (e ∷ p)) (sym (any-child same_path same_path-reading e c cs p) ∙ there)
-    (λ here. ap (λ g. is_path_of s (g ∷ [])) (same_element-true e f (both_first (same_element e f) _ here)) ∙ all.0)
-    (λ later. child-of s cs all.1 e p later)
+    (λ here. ap (λ g. is_path_of s (g ∷ [])) (same_element-true e f (both_first (same_element e f) _ here)) ∙ both_first (is_path_of s (f ∷ [])) _ all)
+    (λ later. child-of s cs (both_second (is_path_of s (f ∷ [])) _ all) e p later)
 
-pub all-of : (s : Subresource) (t : Trie) → ((out-Trie t).here ≡ true → is_path_of s [] ≡ true) → AllOf s (out-Trie t).below.items → LiesIn s t
+-- where the root itself and its children are of the part, all is
+pub all-of : (s : Subresource) (t : Trie) → ((out-Trie t).here ≡ true → is_path_of s [] ≡ true) → are_in_part s (out-Trie t).below.items ≡ true → LiesIn s t
 all-of s t here all [] there = here (sym (one-level-root t) ∙ there)
 all-of s t here all (e ∷ p) there =
     side s e p ∙ child-of s (out-Trie t).below.items all e p (sym (any-level same_path same_path-reading t e p) ∙ there)
+
+-- of paths that are all of the part none is outside it
+pub none-outside : (s : Subresource) (t : Trie) → LiesIn s t → empty ≡ set_of (set_paths (listed (paths t))) (λ p. not (is_path_of s p))
+none-outside s t all =
+    same_sets _ _ (λ p.
+    sym (has-set_of (set_paths (listed (paths t))) (λ q. not (is_path_of s q)) p
+    ∙ ap (λ b. b && not (is_path_of s p)) (sym (has-paths (listed (paths t)) p) ∙ has-listed (paths t) p)
+    ∙ elim (is_one_of (paths t) p) as (λ b. is_one_of (paths t) p ≡ b → (b && not (is_path_of s p)) ≡ false) [
+      | true ↦ λ there. ap not (all p there)
+      | false ↦ λ _. refl
+    ] refl))
+
+-- what is of the other part is not of this one
+pub other-side : (s : Subresource) (p : Path) → is_path_of (other_part s) p ≡ not (is_path_of s p)
+other-side main p = elim (under status_path p) as (λ b. b ≡ not (not b)) [ true ↦ refl | false ↦ refl ]
+other-side status p = refl

@@ -1,7 +1,7 @@
 -- The parts of an object, as the program tells them.
-use Rattle.std.specs.Prelude.{◌≡◌, List, [], ◌∷◌, Bool, true, ◌&&◌, codes}
+use Rattle.std.specs.Prelude.{◌≡◌, List, [], ◌∷◌, Bool, true, ◌&&◌}
 use Rattle.std.specs.List.{filter}
-use Rattle.ssa_model.specs.definitions.Path.{Element, Path, field, same_element}
+use Rattle.ssa_model.specs.definitions.Path.{Path}
 use Rattle.ssa_model.specs.definitions.Parts.{Subresource, main, status, is_path_of}
 use Rattle.ssa_path.specs.Trie.{is_one_of, is_trie, paths}
 use Rattle.ssa_path.specs.View.{element_view}
@@ -18,12 +18,14 @@ abbrev pub other_part : Subresource → Subresource
 other_part main = status
 other_part status = main
 
-abbrev pub is_status : Element → Bool
-is_status e = same_element (field (codes "status")) e
-
 -- the children of a root that are of the part
 abbrev pub in_part : {A : Type 0} → Subresource → List (Elem × A) → List (Elem × A)
 in_part s cs = filter (λ c. is_path_of s (element_view c.0 ∷ [])) cs
+
+-- the children of a root are all of the part
+abbrev pub are_in_part : {A : Type 0} → Subresource → List (Elem × A) → Bool
+are_in_part s [] = true
+are_in_part s (c ∷ cs) = is_path_of s (element_view c.0 ∷ []) && are_in_part s cs
 
 -- the paths of the trie are of the part
 abbrev pub LiesIn : Subresource → Trie → Type 0

@@ -1,9 +1,7 @@
 // The parts of an object: what stands at and below its root's field `status`, and all else.
-ghost use Rattle.std.specs.Prelude.{◌≡◌, [], ◌∷◌, true, OnOk};
-ghost use Rattle.std.specs.List.{filter};
-ghost use Rattle.ssa_model.specs.definitions.Parts.{is_path_of, same_part};
-ghost use Rattle.ssa_path.specs.Children.{elements};
-ghost use Rattle.ssa_path.specs.Subresources.{in_part, is_status, other_part, part_view, IsPartOf, LiesIn};
+ghost use Rattle.std.specs.Prelude.{◌≡◌, [], ◌∷◌, true};
+ghost use Rattle.ssa_model.specs.definitions.Parts.{is_path_of, same_part, status};
+ghost use Rattle.ssa_path.specs.Subresources.{are_in_part, in_part, other_part, part_view, IsPartOf, LiesIn};
 ghost use Rattle.ssa_path.specs.Trie.{is_trie};
 ghost use Rattle.ssa_path.specs.View.{element_view};
 
@@ -25,7 +23,7 @@ pub enum Part {
 
 // Whether the element is the root's field `status`.
 fn is_status(element: &Elem) -> bool
-    ensures { result ≡ is_status (element_view element.now) }
+    ensures { result ≡ is_path_of status (element_view element.now ∷ []) }
 {
     match element {
         Elem::Field(name) => is_same_text(name.as_str(), "status"),
@@ -77,14 +75,17 @@ impl Part {
         }
     }
 
-    /// Takes out those children of a root that are not of the part. Takes no memory.
-    pub fn keep<T: Drop>(self, children: &mut Vec<(Elem, T)>)
+    // Takes out those children of a root that are not of the part.
+    fn keep(self, children: &mut Vec<(Elem, Trie)>)
         ensures { children.new.items ≡ in_part (part_view self) children.old.items }
     {
-        children.retain(|child| self.has(&child.0));
+        match self {
+            Part::Main => children.retain(|child| Part::Main.has(&child.0)),
+            Part::Status => children.retain(|child| Part::Status.has(&child.0)),
+        }
     }
 
-    /// Takes out those paths of a root's trie that are not of the part. Takes no memory.
+    // Takes out those paths of a root's trie that are not of the part. Takes no memory.
     pub(crate) fn keep_paths(self, root: &mut Trie)
         requires { is_trie root.old ≡ true }
         ensures { IsPartOf (part_view self) root.old root.new }

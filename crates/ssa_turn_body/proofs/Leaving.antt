@@ -23,7 +23,8 @@ use Rattle.ssa_typed.specs.declared.node.Node.{Node}
 use Rattle.ssa_typed.specs.declared.node.Node.TheViews.{out-Node}
 use Rattle.ssa_typed.proofs.Lookups.{content-level, content-root}
 use Rattle.ssa_typed.proofs.OverNodes.{below-leaf}
-use Rattle.ssa_typed.proofs.Restricting.{below_set, filter-apart, filter-fields, filter-items, filter-rises, part-false}
+use Rattle.ssa_path.proofs.InPart.{filter-rises}
+use Rattle.ssa_typed.proofs.Restricting.{below_set, filter-apart, filter-fields, filter-items, part-false}
 use Rattle.ssa_turn_body.specs.Applying.{Gone, IsApplied, IsAppliedBelow, IsApplying, MayPart, MayPartBelow, behind, gone_below, stays_of}
 use Rattle.ssa_turn_body.specs.Led.{AreLeading}
 use Rattle.ssa_turn_body.specs.Marks.{Child, marks, may_stand, with_order}

@@ -2,17 +2,17 @@
 use Rattle.std.proofs.Common.{◌≡◌, List, [], ◌∷◌, ◌++◌, Bool, true, false, ◌&&◌, cond, Option, Some, None, refl, sym, ap, ◌∙◌}
 use Rattle.std.specs.Prelude.{filter, option_map, if◌then◌else◌}
 use Rattle.std.specs.List.{list_any}
-use Rattle.std.specs.Ordering.{is_lt}
 use Rattle.ssa_model.specs.definitions.Body.{Content, leaf, atom, record_branch, dict_branch, list_branch, restricted, restricted_content}
-use Rattle.ssa_model.specs.definitions.Path.{Element, Path, element_cmp, is_item_element, same_element, under}
+use Rattle.ssa_model.specs.definitions.Path.{Element, Path, is_item_element, same_element, under}
 use Rattle.ssa_model.proofs.Fitting.{distinct-filter, same_element-true}
 use Rattle.ssa_model.proofs.PathMaps.{get-restricted, same_map}
-use Rattle.ssa_path.specs.Children.{child_at, elements, is_below, rises}
+use Rattle.ssa_path.specs.Children.{child_at, elements, rises}
 use Rattle.ssa_path.specs.declared.element.Elem.{Elem}
 use Rattle.ssa_path.specs.declared.trie.Trie.{Trie}
 use Rattle.ssa_path.specs.declared.trie.Trie.TheViews.{out-Trie}
 use Rattle.ssa_path.specs.Trie.{are_filled_tries, is_filled, is_trie, paths, paths_below}
 use Rattle.ssa_path.specs.View.{element_view}
+use Rattle.ssa_path.proofs.InPart.{filter-rises}
 use Rattle.ssa_path.proofs.Levels.{any-level, under-reading}
 use Rattle.ssa_path.proofs.Orders.{both_first, both_second}
 use Rattle.ssa_typed.specs.Points.{content_in}
@@ -112,24 +112,6 @@ module _ (ps : List Path) (c : Child) (left : List Child) where
       }
 
 -- ---- fewer elements stand as well as all
-
-module _ (test : Element → Bool) where
-  filter-below : (e : Element) (es : List Element) → is_below e es ≡ true → is_below e (filter test es) ≡ true
-  filter-below e [] h = refl
-  filter-below e (f ∷ es) h =
-      elim (test f) as (λ b. is_below e (cond b (f ∷ filter test es) (filter test es)) ≡ true) [
-        | true ↦ both _ _ (both_first _ _ h) (filter-below e es (both_second _ _ h))
-        | false ↦ filter-below e es (both_second (is_lt (element_cmp e f)) _ h)
-      ]
-
-  -- elements that rise do so where some are left out
-  pub filter-rises : (es : List Element) → rises es ≡ true → rises (filter test es) ≡ true
-  filter-rises [] h = refl
-  filter-rises (e ∷ es) h =
-      elim (test e) as (λ b. rises (cond b (e ∷ filter test es) (filter test es)) ≡ true) [
-        | true ↦ both _ _ (filter-below e es (both_first _ _ h)) (filter-rises es (both_second _ _ h))
-        | false ↦ filter-rises es (both_second (is_below e es) _ h)
-      ]
 
 -- elements that are apart are so where some are left out
 pub filter-apart : (test : Element → Bool) (es : List Element) → are_apart es ≡ true → are_apart (filter test es) ≡ true

@@ -8,22 +8,21 @@ use Rattle.ssa_model.specs.definitions.PathMap.{get, has, paths}
 use Rattle.ssa_model.specs.definitions.Body.{Body, Content, leaf, atom, record_branch, dict_branch, list_branch, is_dict, is_leaf, is_point, over, over_content, points, restricted, restricted_content, strictly_under}
 use Rattle.ssa_model.specs.definitions.Valid.{IsRooted, metadata_path}
 use Rattle.ssa_model.proofs.PathMaps.{get-over, get-restricted, has-paths, has-points}
-use Rattle.ssa_model.proofs.Fitting.{some_there}
 use Rattle.ssa_model.proofs.Pruned.{from_one, some_one}
 use Rattle.ssa_model.proofs.Tables.{apart_by, either, has-over, has-restricted, true_or}
-use Rattle.ssa_model.proofs.ValidStates.{in_no_dict, no_leaf, something_below}
-use Rattle.ssa_typed.specs.Alike.{AreAlike, are_alike}
+use Rattle.ssa_model.proofs.ValidStates.{no_leaf, something_below}
+use Rattle.ssa_typed.specs.Alike.{are_alike}
 use Rattle.ssa_model.proofs.Basics.{or_true, yes_no}
 
--- a body is rooted whose root is no leaf, and whose `metadata`, where it is there, is no leaf and no entry of a Dict and has something below it
-pub rooted-by : (b : Body) → is_leaf (get b []) ≡ false → is_leaf (get b metadata_path) ≡ false
-    → (has b metadata_path ≡ true → (is_dict (get b []) ≡ false) × (list_any (strictly_under metadata_path) (paths b) ≡ true)) → IsRooted b
-rooted-by b no_root no_content inside = record {
-  root = no_root;
+-- a body is rooted whose root is a record, and whose `metadata`, where it is there, is no leaf and has something below it
+pub rooted-by : (b : Body) → get b [] ≡ Some record_branch → is_leaf (get b metadata_path) ≡ false
+    → (has b metadata_path ≡ true → list_any (strictly_under metadata_path) (paths b) ≡ true) → IsRooted b
+rooted-by b root_is no_content inside = record {
+  root = root_is;
   metadata = apart_by (has (points b) metadata_path) (λ t.
       let there = first_so (has b metadata_path) (is_point b metadata_path) (sym (has-points b metadata_path) ∙ t) in
       let held = inside there in
-      yes_no (has (points b) metadata_path) t (has-points b metadata_path ∙ (λ i. there i && (no_content i || (held.0 i || not (held.1 i))))));
+      yes_no (has (points b) metadata_path) t (has-points b metadata_path ∙ (λ i. there i && (no_content i || (is_dict (root_is i) || not (held i))))));
 }
 
 -- ---- one body over another
@@ -49,19 +48,9 @@ dicts-over dict_branch dict_branch h k = (refl, refl)
 dicts-over (list_branch es) dict_branch h k = absurd (true≢false (sym h))
 dicts-over c (list_branch es) h k = absurd (true≢false (sym k))
 
-module _ (live config : Body) (alike : AreAlike live config) (r : IsRooted live) (s : IsRooted config)
-    (here : has live [] ≡ true) (there : has config [] ≡ true) where
+module _ (live config : Body) (r : IsRooted live) (s : IsRooted config) where
   abbrev merged : Body
   merged = over live config
-
-  both-dicts : is_dict (get merged []) ≡ true → (is_dict (get live []) ≡ true) × (is_dict (get config []) ≡ true)
-  both-dicts h =
-      let c = some_there (get live []) here in
-      let d = some_there (get config []) there in
-      let both = dicts-over c.0 d.0
-      ((λ i. are_alike (sym c.1 i) (sym d.1 i)) ∙ alike [])
-      ((λ i. is_dict (over_content (sym c.1 i) (sym d.1 i))) ∙ ap is_dict (sym (get-over live config [])) ∙ h) in
-      (ap is_dict c.1 ∙ both.0, ap is_dict d.1 ∙ both.1)
 
   -- from `metadata` in one of the two
   below-from : (b : Body) → ((p : Path) → has b p ≡ true → has merged p ≡ true) → IsRooted b → has b metadata_path ≡ true
@@ -70,22 +59,16 @@ module _ (live config : Body) (alike : AreAlike live config) (r : IsRooted live)
       let x = some_one (strictly_under metadata_path) (paths b) (something_below b rooted in_b) in
       from_one (strictly_under metadata_path) (paths merged) x.0 (sym (has-paths merged x.0) ∙ within x.0 (has-paths b x.0 ∙ x.1)) x.2
 
-  -- one rooted body over another that is alike is rooted
+  -- one rooted body over another is rooted
   pub over-rooted : IsRooted merged
   over-rooted =
       rooted-by merged
-      (ap is_leaf (get-over live config []) ∙ no-leaf-over (get live []) (get config []) r.root s.root)
+      (get-over live config [] ∙ (λ i. over_content (r.root i) (s.root i)))
       (ap is_leaf (get-over live config metadata_path) ∙ no-leaf-over (get live metadata_path) (get config metadata_path) (no_leaf live r) (no_leaf config s))
       (λ in_merged.
       either (has live metadata_path) (has config metadata_path) (sym (has-over live config metadata_path) ∙ in_merged)
-      (λ in_live. (
-        apart_by (is_dict (get merged [])) (λ h. yes_no (is_dict (get live [])) (both-dicts h).0 (in_no_dict live r in_live)),
-        below-from live (λ p h. has-over live config p ∙ true_or (has live p) (has config p) h) r in_live,
-      ))
-      (λ in_config. (
-        apart_by (is_dict (get merged [])) (λ h. yes_no (is_dict (get config [])) (both-dicts h).1 (in_no_dict config s in_config)),
-        below-from config (λ p h. has-over live config p ∙ or_true (has live p) (has config p) h) s in_config,
-      )))
+      (λ in_live. below-from live (λ p h. has-over live config p ∙ true_or (has live p) (has config p) h) r in_live)
+      (λ in_config. below-from config (λ p h. has-over live config p ∙ or_true (has live p) (has config p) h) s in_config))
 
 -- ---- a part of a body
 
@@ -100,21 +83,10 @@ part-leaf test p true (Some record_branch) h = refl
 part-leaf test p true (Some dict_branch) h = refl
 part-leaf test p true (Some (list_branch es)) h = refl
 
--- what stays of a content that is no Dict is none
-pub part-dict : (test : Path → Bool) (p : Path) (b : Bool) (o : Option Content) → is_dict o ≡ false
-    → is_dict (if b then option_map (restricted_content test p) o else None) ≡ false
-part-dict test p false o h = refl
-part-dict test p true None h = refl
-part-dict test p true (Some (leaf s)) h = refl
-part-dict test p true (Some (atom v)) h = refl
-part-dict test p true (Some record_branch) h = refl
-part-dict test p true (Some dict_branch) h = h
-part-dict test p true (Some (list_branch es)) h = refl
-
--- where there is no `metadata`, each part of a rooted body is rooted
-pub part-rooted : (b : Body) (test : Path → Bool) → IsRooted b → has b metadata_path ≡ false → IsRooted (restricted b test)
-part-rooted b test rooted none =
+-- where there is no `metadata`, each part of a rooted body with its root is rooted
+pub part-rooted : (b : Body) (test : Path → Bool) → IsRooted b → has b metadata_path ≡ false → test [] ≡ true → IsRooted (restricted b test)
+part-rooted b test rooted none whole =
     rooted-by (restricted b test)
-    (ap is_leaf (get-restricted b test []) ∙ part-leaf test [] (test []) (get b []) rooted.root)
+    (get-restricted b test [] ∙ (λ i. if whole i then option_map (restricted_content test []) (rooted.root i) else None))
     (ap is_leaf (get-restricted b test metadata_path) ∙ part-leaf test metadata_path (test metadata_path) (get b metadata_path) (no_leaf b rooted))
     (λ there. absurd (true≢false (sym (second_so (test metadata_path) (has b metadata_path) (sym (has-restricted b test metadata_path) ∙ there)) ∙ none)))

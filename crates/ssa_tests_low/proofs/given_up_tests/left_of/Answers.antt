@@ -73,3 +73,4 @@ without-requires-clause-rooted c =
     part-rooted b (λ p. not (has c.in_ok-lost.lost p)) c.stands_rooted.ensures
     (sym (mapped_some _ (get b metadata_path)) ∙ ap (λ p. is_some (look_at b p)) (sym c.in_ok-metadata.ensures) ∙ ap is_some (sym c.get-2.ensures)
     ∙ mapped_some look_of c.get-2.result ∙ sym c.is_some.ensures ∙ c.if-is_some.false)
+    (ap not (without-requires-clause-inner c))

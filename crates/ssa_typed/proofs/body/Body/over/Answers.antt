@@ -3,7 +3,6 @@ use Rattle.ssa_model.specs.definitions.Body.{over}
 use Rattle.ssa_model.specs.definitions.Valid.{IsRooted}
 use Rattle.ssa_typed.specs.Alike.{AreAlike}
 use Rattle.ssa_typed.specs.Rows.{body_of}
-use Rattle.ssa_typed.proofs.AnyTree.{tree-root}
 use Rattle.ssa_typed.proofs.OverNodes.{over-body, alike-bodies}
 use Rattle.ssa_typed.proofs.RootedBodies.{over-rooted}
 use Rattle.ssa_typed.proofs.body.Body.over.Goals as goal
@@ -16,11 +15,10 @@ pub invariant_of-result : goal.invariant_of-result
 invariant_of-result c =
     let n = c.self.inside.root in
     let m = c.config.inside.root in
-    let alike = subst₂ (λ a b. AreAlike a b) (sym c.self.view_is) (sym c.config.view_is) c.requires in
     record {
       tree = c.in_ok-over_node.ensures.tree;
       rooted = subst IsRooted (sym (over-body n m c.over_node.new.config c.in_ok-over_node.ensures))
-          (over-rooted (body_of n) (body_of m) alike c.self.invariant.rooted c.config.invariant.rooted (tree-root n) (tree-root m));
+          (over-rooted (body_of n) (body_of m) c.self.invariant.rooted c.config.invariant.rooted);
     }
 
 pub returns : goal.returns
