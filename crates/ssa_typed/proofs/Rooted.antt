@@ -190,7 +190,7 @@ module _ (fs : Fields) (ms : Members) (n : Node) (lawful : has_metadata (record_
   -- the body of a fitting object is rooted, where it has no empty `metadata`
   pub body-rooted : IsRooted body
   body-rooted = record {
-    root = ap is_leaf root_is;
+    root = root_is;
     metadata = apart_by (has (points body) metadata_path) (λ t.
         let there = first_so (has body metadata_path) (is_point body metadata_path) (sym (has-points body metadata_path) ∙ t) in
         let c = some_there (get body metadata_path) there in
