@@ -14,6 +14,7 @@ use Rattle.ssa_path.specs.View.{element_view}
 use Rattle.ssa_path.specs.declared.element.Elem.{Elem}
 use Rattle.ssa_path.specs.declared.trie.Trie.{Trie}
 use Rattle.ssa_path.specs.declared.trie.Trie.TheViews.{out-Trie}
+use Rattle.ssa_path.proofs.InPart.{filter-rises}
 use Rattle.ssa_path.proofs.Levels.{any-below, any-level, found, one-below-root, one-level-root, same_path-reading}
 use Rattle.ssa_path.proofs.Orders.{both_first, both_second}
 use Rattle.ssa_typed.specs.Points.{content_in}
@@ -21,9 +22,9 @@ use Rattle.ssa_typed.specs.Restricted.{part_at}
 use Rattle.ssa_typed.specs.Rows.{below, content_at, is_tree, own_content, rows}
 use Rattle.ssa_typed.specs.declared.node.Node.{Node}
 use Rattle.ssa_typed.specs.declared.node.Node.TheViews.{out-Node}
+use Rattle.ssa_typed.proofs.KeepingOrder.{nothing-ordered}
 use Rattle.ssa_typed.proofs.Lookups.{content-level, content-root}
 use Rattle.ssa_typed.proofs.OverNodes.{below-leaf}
-use Rattle.ssa_path.proofs.InPart.{filter-rises}
 use Rattle.ssa_typed.proofs.Restricting.{below_set, filter-apart, filter-fields, filter-items, part-false}
 use Rattle.ssa_turn_body.specs.Applying.{Gone, IsApplied, IsAppliedBelow, IsApplying, MayPart, MayPartBelow, behind, gone_below, stays_of}
 use Rattle.ssa_turn_body.specs.Led.{AreLeading}
@@ -73,15 +74,6 @@ unlooked gone n tree none = record { tree = tree; content = λ p. sym (whole-par
 pub unlooked-applying : (p : Path) (gone : Gone) (n : Node) (steps : List Step) → is_tree n ≡ true → ((q : Path) → gone q ≡ false)
     → IsApplying p gone n None steps steps
 unlooked-applying p gone n steps tree none = (n, unlooked gone n tree (λ q there. none q), leading-same p (marks n) (marks n) steps steps refl (λ q. refl))
-
--- beside nothing, nothing stands in another order
-nothing-ordered : (o : Option Content) → is_reordered o None ≡ false
-nothing-ordered None = refl
-nothing-ordered (Some (leaf s)) = refl
-nothing-ordered (Some (atom v)) = refl
-nothing-ordered (Some record_branch) = refl
-nothing-ordered (Some dict_branch) = refl
-nothing-ordered (Some (list_branch es)) = refl
 
 none-of : (es : List Element) → filter (λ e. is_among e []) es ≡ []
 none-of [] = refl

@@ -57,4 +57,3 @@ pub mod Trees
 pub mod Unchanged
 pub mod Values
 pub mod NumberedChildren
-pub mod InPart

@@ -26,4 +26,3 @@ pub mod Tested
 pub mod Values
 pub mod Without
 pub mod Keyed
-pub mod InPart
