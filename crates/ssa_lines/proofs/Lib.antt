@@ -1,0 +1,8 @@
+pub mod DeviceFacts
+pub mod ReadingFacts
+pub mod LoadingFacts
+pub mod SavingFacts
+pub mod FaultTexts
+pub mod Lines
+pub mod AnswerFacts
+pub mod SessionFacts

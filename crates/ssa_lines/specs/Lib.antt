@@ -1,0 +1,7 @@
+pub mod Held
+pub mod Reading
+pub mod Loading
+pub mod Saving
+pub mod FaultTexts
+pub mod Session
+pub mod Outcome
