@@ -4,5 +4,3 @@ pub mod LoadingFacts
 pub mod SavingFacts
 pub mod FaultTexts
 pub mod Lines
-pub mod AnswerFacts
-pub mod SessionFacts

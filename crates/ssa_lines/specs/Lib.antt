@@ -3,5 +3,3 @@ pub mod Reading
 pub mod Loading
 pub mod Saving
 pub mod FaultTexts
-pub mod Session
-pub mod Outcome

@@ -1,7 +1,7 @@
-//! Lines of a text: read from a source, answered by a machine, written to a sink; and faults as lines.
+//! Lines of a text, read from a source and written to a sink; and faults as lines.
 //!
 //! [`read_line`](read_line::read_line) holds one line at a time; [`read_value`] gives the values of a
-//! bench file, line by line. [`session`](engine::session) has a [`Machine`] answer each line of a source.
+//! bench file, line by line; [`write_fault`](fault_line::write_fault) writes the line of a fault.
 //!
 //! ```
 //! let mut reader = OfReader::new(b"ab\ncd".as_slice());
@@ -15,20 +15,16 @@
 //! ```
 #![tactic(auto)]
 
-pub mod engine;
 pub mod fault_line;
 pub mod json_text;
 pub mod line;
 pub mod loading;
-pub mod machine;
 pub mod read_line;
 pub mod saving;
 pub mod write_line;
 pub mod written;
 
-pub use engine::{LINE_LIMIT, SessionFault};
 pub use line::Line;
 pub use loading::{FileLine, LoadFault, read_value};
-pub use machine::Machine;
 pub use read_line::LineEnd;
 pub use saving::{MOST_FILE_BYTES, SaveFault, write_text};

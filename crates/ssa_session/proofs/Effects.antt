@@ -11,8 +11,8 @@ use Rattle.ssa_json.specs.Readings.{readings}
 use Rattle.ssa_session.specs.BenchLines.{line_reply, bench_after}
 use Rattle.ssa_session.specs.Effects.{IsRunOf, RunsAll, RunsWhole, RunsPartly, commands_of}
 use Rattle.ssa_model.specs.definitions.Lines.{lines, whole_lines}
-use Rattle.ssa_lines.specs.Outcome.{AnswersAll, AnswersWhole, AnswersPartly}
-use Rattle.ssa_lines.specs.Session.{Replies, IsAnswer, IsRefused}
+use Rattle.ssa_session.specs.Outcome.{AnswersAll, AnswersWhole, AnswersPartly}
+use Rattle.ssa_session.specs.Session.{Replies, IsAnswer, IsRefused}
 
 abbrev Bytes : Type 0
 Bytes = List ℕ

@@ -8,7 +8,7 @@ use Rattle.ssa_model.specs.definitions.Session.{given_commands}
 use Rattle.ssa_json.specs.Readings.{readings}
 use Rattle.ssa_session.specs.BenchLines.{line_reply, bench_after}
 use Rattle.ssa_model.specs.definitions.Lines.{lines, whole_lines}
-use Rattle.ssa_lines.specs.Outcome.{AnswersAll, AnswersWhole, AnswersPartly}
+use Rattle.ssa_session.specs.Outcome.{AnswersAll, AnswersWhole, AnswersPartly}
 
 -- the commands that lines gave, by the replies to them
 abbrev pub commands_of : List (List ℕ) → List (List ℕ) → List Command

@@ -11,8 +11,8 @@ use Rattle.ssa_session.specs.Files.{IsTold}
 use Rattle.ssa_session.specs.declared.files.FileFault as files
 use Rattle.ssa_session.specs.Effects.{RunsAll, RunsWhole, RunsPartly}
 use Rattle.ssa_model.specs.definitions.Lines.{line_feed}
-use Rattle.ssa_lines.specs.declared.engine.SessionFault.{SessionFault}
-use Rattle.ssa_lines.specs.declared.engine.SessionFault.TheVariants.{Reader, Writer}
+use Rattle.ssa_session.specs.declared.engine.SessionFault.{SessionFault}
+use Rattle.ssa_session.specs.declared.engine.SessionFault.TheVariants.{Reader, Writer}
 use Rattle.ssa_session.specs.declared.files.Ending.{Ending}
 use Rattle.ssa_session.specs.declared.files.Ending.TheVariants.{Done, Refused, OutOfMemory}
 

@@ -12,6 +12,7 @@ ghost use Rattle.ssa_session.specs.Commands.{command_view};
 use crate::command::Command;
 use crate::fault_text::fault_text;
 use crate::log_text::log_text;
+use crate::machine::Machine;
 use crate::read_command::{LineFault, read_command};
 use crate::reply_text::{changed_text, moved_text, owners_text, shown_text};
 use ssa_bench::bench::Bench;
@@ -19,7 +20,6 @@ use ssa_bench::command as bench;
 use ssa_bench::fault::Fault;
 use ssa_json::reading_room::ReadingRoom;
 use ssa_lines::fault_line::code_text;
-use ssa_lines::machine::Machine;
 use ssa_path::path::Path;
 use std::alloc::{AllocError, Global};
 

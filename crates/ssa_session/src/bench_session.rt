@@ -3,11 +3,11 @@ ghost use Rattle.std.specs.Prelude.{◌≡◌, ◌<◌, true, OnOk, OnSome, Err}
 ghost use Rattle.std.specs.Io.KnownBytes.{IsAtEnd};
 ghost use Rattle.ssa_session.specs.Effects.{RunsAll, RunsWhole, RunsPartly};
 
+use crate::engine;
+use crate::engine::SessionFault;
 use ssa_bench::bench::Bench;
 use ssa_json::sink::Sink;
 use ssa_json::source::Source;
-use ssa_lines::engine;
-use ssa_lines::engine::SessionFault;
 use ssa_model::headline_holds;
 use std::alloc::Global;
 

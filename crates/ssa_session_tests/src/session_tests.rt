@@ -5,10 +5,10 @@ use crate::falters::Falters;
 use ssa_json::reader::OfReader;
 use ssa_json::reading_room::ReadingRoom;
 use ssa_json::sink::OfWriter;
-use ssa_lines::engine::{SessionFault, session};
-use ssa_lines::machine::Machine;
 use ssa_samples::breaks::Breaks;
 use ssa_samples::marks::Marks;
+use ssa_session::engine::{SessionFault, session};
+use ssa_session::machine::Machine;
 use std::alloc::{AllocError, Global};
 use std::test::Fail;
 

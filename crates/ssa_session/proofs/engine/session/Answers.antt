@@ -1,7 +1,7 @@
 use Rattle.std.proofs.Common.{arith, rules, ◌≢◌, [], true≢false, Ok, ap, sym, ◌∙◌}
 use Rattle.ssa_model.specs.definitions.Limits.{most_line_bytes}
-use Rattle.ssa_lines.proofs.SessionFacts.{IsAtEnd-consumed, SoFar-none, SoFar-more, AnswersWhole-fault, AnswersAll-last, AnswersPartly-whole, AnswersPartly-last}
-use Rattle.ssa_lines.proofs.engine.session.Goals as goal
+use Rattle.ssa_session.proofs.SessionFacts.{IsAtEnd-consumed, SoFar-none, SoFar-more, AnswersWhole-fault, AnswersAll-last, AnswersPartly-whole, AnswersPartly-last}
+use Rattle.ssa_session.proofs.engine.session.Goals as goal
 
 pub loop-end-init : goal.loop-end-init
 loop-end-init g c = record { answered = SoFar-none _ _ _ _ _; handed_on = λ h. h; ends = search rules }

@@ -2,7 +2,7 @@
 use Rattle.std.proofs.Common.{◌≡◌, ℕ, ◌<◌, List, [], ◌∷◌, ◌++◌, length, inl, inr, refl, lt-ltb}
 use Rattle.ssa_model.specs.definitions.Limits.{most_line_bytes}
 use Rattle.ssa_model.specs.definitions.Session.{too_long_text, out_of_memory_text}
-use Rattle.ssa_lines.specs.Session.{AnswersLine}
+use Rattle.ssa_session.specs.Session.{AnswersLine}
 
 module _ {M : Type 0} (reply : M → List ℕ → List ℕ) (after : M → List ℕ → M) where
   -- a line over the limit is answered so, and changes nothing

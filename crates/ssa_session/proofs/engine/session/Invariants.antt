@@ -1,6 +1,6 @@
 use Rattle.std.proofs.Common.{◌≡◌, ◌≤◌, true}
-use Rattle.ssa_lines.proofs.SessionFacts.{SoFar}
-use Rattle.ssa_lines.proofs.engine.session.Given as goal
+use Rattle.ssa_session.proofs.SessionFacts.{SoFar}
+use Rattle.ssa_session.proofs.engine.session.Given as goal
 
 abbrev pub invariant-loop-end : goal.invariant-loop-end
 invariant-loop-end g l = record {

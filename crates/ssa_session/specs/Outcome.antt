@@ -3,7 +3,7 @@ use Rattle.std.specs.Prelude.{◌≡◌, ℕ, List, [], ◌∷◌, ◌++◌, Opt
 use Rattle.std.specs.Io.{StartsWith}
 use Rattle.std.specs.Io.KnownBytes.{Consumes, Appends, IsAtEnd}
 use Rattle.ssa_model.specs.definitions.Lines.{line_feed, lines, whole_lines, unfinished_line, ended}
-use Rattle.ssa_lines.specs.Session.{Replies}
+use Rattle.ssa_session.specs.Session.{Replies}
 
 module _ {M : Type 0} (reply : M → List ℕ → List ℕ)
     (after : M → List ℕ → M) (left left_after : Option (List ℕ)) (written written_after : Option (List ℕ)) (old new : M) where

@@ -9,8 +9,8 @@ use Rattle.ssa_model.specs.definitions.Limits.{most_line_bytes}
 use Rattle.ssa_model.specs.definitions.Lines.{line_feed, split_lines, whole_lines, unfinished_line, last_line, lines, ended, HasNoLineFeed}
 use Rattle.ssa_lines.specs.Reading.{TakesLine}
 use Rattle.ssa_json.specs.Devices.{AppendsPart}
-use Rattle.ssa_lines.specs.Session.{IsAnswer, IsRefused, AnswersLine, Replies}
-use Rattle.ssa_lines.specs.Outcome.{AnswersAll, AnswersWhole, AnswersPartly}
+use Rattle.ssa_session.specs.Session.{IsAnswer, IsRefused, AnswersLine, Replies}
+use Rattle.ssa_session.specs.Outcome.{AnswersAll, AnswersWhole, AnswersPartly}
 use Rattle.ssa_model.proofs.LinesFacts.{split_lines-whole, split_lines-unfinished}
 
 -- the source is at its end, whatever it has given before

@@ -1,7 +1,7 @@
 use Rattle.std.proofs.Common.{refl}
 use Rattle.std.proofs.lemmas.Result.{on_ok_weaker, on_err_weaker}
-use Rattle.ssa_lines.proofs.AnswerFacts.{AnswersLine-too_long, AnswersLine-refused}
-use Rattle.ssa_lines.proofs.engine.answer_line.Goals as goal
+use Rattle.ssa_session.proofs.AnswerFacts.{AnswersLine-too_long, AnswersLine-refused}
+use Rattle.ssa_session.proofs.engine.answer_line.Goals as goal
 
 pub returns-in-TooLong-clause-ok : goal.returns-in-TooLong-clause-ok
 returns-in-TooLong-clause-ok g c =
