@@ -12,8 +12,8 @@ use Rattle.ssa_model.specs.laws.LineByLine.{FilesAreRead, Move, Next, Reader, af
 use Rattle.ssa_model.specs.laws.RecordedBenches.{Counts, counts_in, MoveFault, no_move_text, record_does_not_fit, recorded_bench_in, recorded_fault, RecordedFilesAreTaken, TakenIsRecordedText}
 use Rattle.ssa_model.proofs.LineByLine.{after_head}
 use Rattle.ssa_json.specs.Readings.{readings}
-use Rattle.ssa_file.specs.declared.loading.LoadFault.{LoadFault}
-use Rattle.ssa_file.specs.declared.loading.LoadFault.TheVariants.{BenchText, RecordDoesNotFit, Io, OutOfMemory}
+use Rattle.ssa_lines.specs.declared.loading.LoadFault.{LoadFault}
+use Rattle.ssa_lines.specs.declared.loading.LoadFault.TheVariants.{BenchText, RecordDoesNotFit, Io, OutOfMemory}
 use Rattle.ssa_bench.specs.Loading.{IsRefused, Loads, ReadRefuses, ReadsEnd, ReadsHistory, ReadsMoves, ReadsPart}
 use Rattle.ssa_bench.specs.Taking.{counts_view, held_counts}
 

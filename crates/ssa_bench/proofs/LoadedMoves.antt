@@ -8,9 +8,9 @@ use Rattle.ssa_model.specs.laws.LineByLine.{Move, Reader, after_move, after_valu
 use Rattle.ssa_model.specs.laws.RecordedBenches.{MoveFault, value_move}
 use Rattle.ssa_json.specs.Readings.{readings}
 use Rattle.ssa_json.specs.View.{view}
-use Rattle.ssa_file.specs.declared.loading.FileLine.{FileLine}
-use Rattle.ssa_file.specs.declared.loading.LoadFault.{LoadFault}
-use Rattle.ssa_file.specs.declared.loading.LoadFault.TheVariants.{BenchText, RecordDoesNotFit, Io, OutOfMemory}
+use Rattle.ssa_lines.specs.declared.loading.FileLine.{FileLine}
+use Rattle.ssa_lines.specs.declared.loading.LoadFault.{LoadFault}
+use Rattle.ssa_lines.specs.declared.loading.LoadFault.TheVariants.{BenchText, RecordDoesNotFit, Io, OutOfMemory}
 use Rattle.ssa_bench.specs.Loading.{ReadRefuses, ReadsLine, ReadsMoves}
 use Rattle.ssa_bench.specs.Taking.{MovesBy, Refuses}
 

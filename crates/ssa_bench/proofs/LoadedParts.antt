@@ -6,10 +6,10 @@ use Rattle.std.specs.Result.{IsErrAnd}
 use Rattle.ssa_model.specs.definitions.Json.{Json}
 use Rattle.ssa_model.specs.laws.LineByLine.{after_part, after_value}
 use Rattle.ssa_json.specs.View.{view}
-use Rattle.ssa_file.specs.Loading.{ReadsValue}
-use Rattle.ssa_file.specs.declared.loading.FileLine.{FileLine}
-use Rattle.ssa_file.specs.declared.loading.LoadFault.{LoadFault}
-use Rattle.ssa_file.specs.declared.loading.LoadFault.TheVariants.{BenchText, RecordDoesNotFit, Io, OutOfMemory}
+use Rattle.ssa_lines.specs.Loading.{ReadsValue}
+use Rattle.ssa_lines.specs.declared.loading.FileLine.{FileLine}
+use Rattle.ssa_lines.specs.declared.loading.LoadFault.{LoadFault}
+use Rattle.ssa_lines.specs.declared.loading.LoadFault.TheVariants.{BenchText, RecordDoesNotFit, Io, OutOfMemory}
 use Rattle.ssa_bench.specs.Loading.{ReadsLine, ReadsPart}
 use Rattle.ssa_bench.specs.Taking.{IsTaken}
 

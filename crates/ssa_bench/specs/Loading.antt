@@ -9,10 +9,10 @@ use Rattle.ssa_model.specs.laws.LineByLine.{Move, Reader, along, at_end, ended_w
 use Rattle.ssa_model.specs.laws.RecordedBenches.{MoveFault, no_move_text, record_does_not_fit, recorded_bench_in, recorded_fault}
 use Rattle.std.specs.Prelude.{◌≤◌, length}
 use Rattle.ssa_json.specs.Readings.{readings}
-use Rattle.ssa_file.specs.Loading.{IsNextLine}
-use Rattle.ssa_file.specs.declared.loading.FileLine.{FileLine}
-use Rattle.ssa_file.specs.declared.loading.LoadFault.{LoadFault}
-use Rattle.ssa_file.specs.declared.loading.LoadFault.TheVariants.{BenchText, RecordDoesNotFit, Io, OutOfMemory}
+use Rattle.ssa_lines.specs.Loading.{IsNextLine}
+use Rattle.ssa_lines.specs.declared.loading.FileLine.{FileLine}
+use Rattle.ssa_lines.specs.declared.loading.LoadFault.{LoadFault}
+use Rattle.ssa_lines.specs.declared.loading.LoadFault.TheVariants.{BenchText, RecordDoesNotFit, Io, OutOfMemory}
 
 -- ---- parts of the file
 

@@ -10,9 +10,9 @@ use Rattle.ssa_model.specs.laws.LineByLine.{Move, moved_by}
 use Rattle.ssa_model.specs.laws.RecordedBenches.{Counts, counts_in, is_label_shape, MoveFault, no_move_text, record_does_not_fit, value_move}
 use Rattle.ssa_json.specs.Readings.{readings}
 use Rattle.ssa_file.specs.declared.head.RecordCounts.{RecordCounts}
-use Rattle.ssa_file.specs.declared.loading.LoadFault.{LoadFault}
-use Rattle.ssa_file.specs.declared.loading.LoadFault.TheVariants.{BenchText, RecordDoesNotFit, Io}
-use Rattle.ssa_file.specs.declared.loading.LoadFault.TheVariants as load
+use Rattle.ssa_lines.specs.declared.loading.LoadFault.{LoadFault}
+use Rattle.ssa_lines.specs.declared.loading.LoadFault.TheVariants.{BenchText, RecordDoesNotFit, Io}
+use Rattle.ssa_lines.specs.declared.loading.LoadFault.TheVariants as load
 use Rattle.ssa_schema.specs.declared.fault.SchemaFault.{SchemaFault}
 use Rattle.ssa_schema.specs.declared.fault.SchemaFault.TheVariants as schema
 use Rattle.ssa_record.specs.declared.read_record.RecordAnswer.{RecordAnswer}

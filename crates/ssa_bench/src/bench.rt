@@ -18,7 +18,7 @@ ghost use Rattle.ssa_turn.specs.Histories.{lent_labels};
 ghost use Rattle.std.specs.Io.KnownBytes.{Appends};
 ghost use Rattle.std.specs.List.{All};
 ghost use Rattle.ssa_json.specs.Writable.{IsOfProgram};
-ghost use Rattle.ssa_file.specs.Saving.{CannotHold, NotSaved};
+ghost use Rattle.ssa_lines.specs.Saving.{CannotHold, NotSaved};
 
 mod laws;
 mod lines;
@@ -28,11 +28,11 @@ use crate::command::Command;
 use crate::fault::Fault;
 use crate::prepared::{Changed, Counts, Prepared, accepted};
 use ssa_file::recording::recorded_text;
-use ssa_file::saving::{SaveFault, write_text};
 use ssa_json::moment::Moment;
 use ssa_json::sink::Sink;
 use ssa_json::value::Json;
 use ssa_json::write::compact_is_read;
+use ssa_lines::saving::{SaveFault, write_text};
 use ssa_merge::change::{change_apply, change_strip, change_update};
 use ssa_merge::manager::ManagerKey;
 use ssa_merge::managers::Managers;
@@ -448,7 +448,7 @@ impl Bench {
     }
 
     /// Writes the bench as a file, and hands it on. A file has at most
-    /// [`MOST_FILE_BYTES`](ssa_file::saving::MOST_FILE_BYTES) bytes; nothing is written before all of it
+    /// [`MOST_FILE_BYTES`](ssa_lines::saving::MOST_FILE_BYTES) bytes; nothing is written before all of it
     /// stands in memory.
     pub fn save<S: Sink>(&self, alloc: Global, sink: &mut S) -> Result<(), SaveFault>
         ensures ok { OnOk result (Appends (S.contents sink.old) (S.contents sink.new) (recorded_text self.now)) }

@@ -10,16 +10,16 @@ ghost use Rattle.ssa_model.specs.laws.RecordedBenches.{present_in};
 ghost use Rattle.ssa_json.specs.Readings.{readings};
 ghost use Rattle.ssa_json.specs.View.{view};
 ghost use Rattle.ssa_json.specs.Writable.{IsOfProgram};
-ghost use Rattle.ssa_file.specs.declared.loading.LoadFault.TheVariants.{Io};
+ghost use Rattle.ssa_lines.specs.declared.loading.LoadFault.TheVariants.{Io};
 ghost use Rattle.ssa_bench.specs.Loading.{Loads, ReadsEnd, ReadsHistory, ReadsLine, ReadsMoves, ReadsPart};
 ghost use Rattle.ssa_bench.specs.Taking.{held_counts};
 
 use crate::bench::Bench;
 use crate::taking::{counts_of, schema_of};
 use ssa_file::head::RecordCounts;
-use ssa_file::loading::{FileLine, LoadFault, read_value};
-use ssa_file::saving::MOST_FILE_BYTES;
 use ssa_json::source::Source;
+use ssa_lines::loading::{FileLine, LoadFault, read_value};
+use ssa_lines::saving::MOST_FILE_BYTES;
 use ssa_model::records::{recorded_files, recorded_lines};
 use ssa_schema::schema::Schema;
 use std::alloc::Global;
@@ -173,7 +173,7 @@ impl Bench {
     /// `BenchText` is answered for a line that is not as `save` would write it: another spelling of a
     /// value, a schema, an object or an entry that is refused, a label that no command gives, what has
     /// not the shape of a record; for a wrong count of lines; for more commands than can be undone;
-    /// and for more than [`MOST_FILE_BYTES`](ssa_file::saving::MOST_FILE_BYTES) bytes.
+    /// and for more than [`MOST_FILE_BYTES`](ssa_lines::saving::MOST_FILE_BYTES) bytes.
     /// `RecordDoesNotFit` is answered for a record that is none from the state that it is told of to a
     /// valid one. Of what the commands of the history do nothing is asked: their states are taken as
     /// the records lead to them.

@@ -9,9 +9,9 @@ ghost use Rattle.ssa_bench.specs.Taking.{IsTaken, answered_step, held_counts, lo
 
 use crate::fault::Fault;
 use ssa_file::head::{RecordCounts, record_counts};
-use ssa_file::loading::{FileLine, LoadFault};
-use ssa_file::written::is_text_of;
 use ssa_json::value::Json;
+use ssa_lines::loading::{FileLine, LoadFault};
+use ssa_lines::written::is_text_of;
 use ssa_record::read_record::RecordAnswer;
 use ssa_schema::fault::SchemaFault;
 use ssa_schema::schema::Schema;

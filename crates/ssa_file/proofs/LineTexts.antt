@@ -1,16 +1,11 @@
 -- The texts of lines, written piece by piece.
-use Rattle.std.proofs.Common.{◌≡◌, [], ◌∷◌, ◌++◌, true, false, codes, refl, ap, ◌∙◌, append_assoc}
+use Rattle.std.proofs.Common.{◌≡◌, [], ◌∷◌, ◌++◌, true, false, codes, refl}
 use Rattle.std.specs.Str.{is_utf8}
-use Rattle.ssa_model.specs.definitions.BenchText.{line}
 use Rattle.ssa_model.specs.definitions.Json.{Text, Json, member, no_members, object, compact}
 use Rattle.ssa_json.specs.MemberTexts.{member_text}
 use Rattle.ssa_json.specs.Writable.{IsOfProgram}
 use Rattle.ssa_json.proofs.MemberTexts.{writes-member, writes-object}
 use Rattle.ssa_json.proofs.OfProgram.{empty-of-program, member-of-program}
-
--- a value with a line feed behind it is its line
-pub line-ended : (before : Text) {mid : Text} (v : Json) → mid ≡ before ++ compact v → mid ++ 10 ∷ [] ≡ before ++ line v
-line-ended before v is = ap (λ t. t ++ 10 ∷ []) is ∙ append_assoc before (compact v) (10 ∷ [])
 
 -- a command and a record, as the value of a line
 pub line-written : (command record_value : Json) (t0 : Text) {t1 t2 t3 t4 : Text} → t1 ≡ t0 ++ 123 ∷ []

@@ -21,10 +21,10 @@ use Rattle.ssa_model.specs.definitions.Takes.{Takes}
 use Rattle.ssa_model.specs.definitions.Valid.{AllValid, IsValidHistory, IsValidState, KeepsOrder, KeepsOrders}
 use Rattle.ssa_model.proofs.ValidTimelines.{state-valid}
 use Rattle.ssa_json.specs.Writable.{IsOfProgram}
-use Rattle.ssa_file.specs.Recording.{kept_value, opening_values}
-use Rattle.ssa_file.specs.Saving.{CannotHold, bench_with}
-use Rattle.ssa_file.specs.declared.saving.SaveFault.{SaveFault}
-use Rattle.ssa_file.proofs.SavingFacts.{lines-refused}
+use Rattle.ssa_file.specs.Recording.{bench_with, kept_value, opening_values}
+use Rattle.ssa_lines.specs.Saving.{CannotHold}
+use Rattle.ssa_lines.specs.declared.saving.SaveFault.{SaveFault}
+use Rattle.ssa_lines.proofs.SavingFacts.{lines-refused}
 use Rattle.ssa_file.proofs.Walking.{left-from, step-there}
 use Rattle.ssa_model.proofs.Tables.{last-push as last_state-push}
 

@@ -1,5 +1,1 @@
-pub mod Saving
-pub mod Held
-pub mod Reading
-pub mod Loading
 pub mod Recording

@@ -7,7 +7,10 @@ use Rattle.ssa_model.specs.definitions.BenchText.{whole_object}
 use Rattle.ssa_model.specs.definitions.History.{Bench, Step, Timeline, present, past_len, future_len}
 use Rattle.ssa_model.specs.definitions.HistoryRecords.{kept_from, kept_to}
 use Rattle.ssa_model.specs.definitions.RecordedBench.{record_head, record_line, past_lines, past_steps, future_lines, future_steps}
-use Rattle.ssa_file.specs.Saving.{bench_with}
+
+-- the bench of a history
+abbrev pub bench_with : Schema → Identity → Timeline → Bench
+bench_with schema identity timeline = record { schema = schema; identity = identity; timeline = timeline }
 
 -- the value of the line of the n-th record of a history, which is that of the step
 abbrev pub kept_value : Schema → Identity → Timeline → ℕ → Step → Json

@@ -6,8 +6,8 @@ ghost use Rattle.ssa_model.specs.laws.RecordedBenches.{counts_in};
 ghost use Rattle.ssa_json.specs.View.{view};
 
 use crate::recording::record_head;
-use crate::written::is_text_of;
 use ssa_json::value::{Json, Scalar};
+use ssa_lines::written::is_text_of;
 use std::alloc::{AllocError, Global};
 
 // The most commands of a bench file of records.

@@ -5,20 +5,23 @@ ghost use Rattle.ssa_model.specs.definitions.BenchText.{line};
 ghost use Rattle.ssa_model.specs.definitions.History.{Step, Timeline};
 ghost use Rattle.ssa_model.specs.definitions.Json.{compact};
 ghost use Rattle.ssa_model.specs.definitions.Limits.{most_bench_bytes};
+ghost use Rattle.ssa_model.specs.definitions.Objects.{with_member};
 ghost use Rattle.ssa_model.specs.definitions.Operations.{State};
 ghost use Rattle.ssa_model.specs.definitions.RecordedBench.{record_head, record_line, recorded_text, recorded_values};
+ghost use Rattle.ssa_model.specs.definitions.Replies.{number_json};
 ghost use Rattle.ssa_model.specs.definitions.Takes.{Takes};
 ghost use Rattle.ssa_model.specs.definitions.Valid.{IsValidHistory};
-ghost use Rattle.ssa_json.specs.View.{view};
+ghost use Rattle.ssa_json.specs.View.{view, members_view};
 ghost use Rattle.ssa_json.specs.Writable.{IsOfProgram};
+ghost use Rattle.ssa_lines.specs.Saving.{CannotHold};
 ghost use Rattle.ssa_turn.specs.Histories.{label_view};
 ghost use Rattle.ssa_turn_state.specs.States.{HasStateRoom, state_steps};
-ghost use Rattle.ssa_file.specs.Recording.{future_values, kept_value, opening_values, past_values};
-ghost use Rattle.ssa_file.specs.Saving.{CannotHold, bench_with};
+ghost use Rattle.ssa_file.specs.Recording.{bench_with, future_values, kept_value, opening_values, past_values};
 
-use crate::saving::{SaveFault, end_line, push_line, put_number};
-use ssa_json::value::Json;
+use ssa_json::members::put_member;
+use ssa_json::value::{Json, Scalar};
 use ssa_json::write::push_name;
+use ssa_lines::saving::{SaveFault, end_line, push_line};
 use ssa_members::Members;
 use ssa_object::identity::Identity;
 use ssa_object::object::object_of_state;
@@ -27,6 +30,20 @@ use ssa_turn::label::Label;
 use ssa_turn::timeline::Timeline;
 use ssa_turn_state::live_state::StateDelta;
 use std::alloc::{AllocError, Global};
+
+// Puts a number in its place among members.
+fn put_number(
+    alloc: Global,
+    members: &mut Members<Json>,
+    name: &str,
+    number: usize,
+) -> Result<(), AllocError>
+    requires { number < 2 ^ 63 }
+    ensures { OnOk result (members_view members.new.entries ≡ with_member name.now (number_json number) (members_view members.old.entries)) }
+{
+    let value = Json::Scalar(Scalar::Int(number as i64));
+    put_member(alloc, members, name, value)
+}
 
 /// The value of the first line: how many commands can be undone, and how many redone.
 pub fn record_head(alloc: Global, past: usize, future: usize) -> Result<Json, AllocError>

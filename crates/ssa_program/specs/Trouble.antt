@@ -5,7 +5,7 @@ use Rattle.ssa_model.specs.definitions.Limits.{most_bench_bytes}
 use Rattle.ssa_model.specs.definitions.Faults.{bench_too_long}
 use Rattle.ssa_model.specs.definitions.Replies.{fault_json}
 use Rattle.ssa_model.specs.definitions.Session.{out_of_memory_text}
-use Rattle.ssa_file.specs.Loading.{load_code}
+use Rattle.ssa_lines.specs.Loading.{load_code}
 use Rattle.ssa_session.specs.Files.{IsTold}
 use Rattle.ssa_program.specs.Names.{escaped, named_line}
 use Rattle.ssa_program.specs.declared.status.Status.{Status}

@@ -6,8 +6,8 @@ ghost use Rattle.ssa_program.specs.Asked.{asked_view, is_asked_accepted, is_aske
 
 use crate::asked::{Asked, AskedFault, command_of};
 use ssa_bench::bench::Bench;
+use ssa_lines::fault_line::code_text;
 use ssa_session::bench_machine::answer_command;
-use ssa_session::fault_line::code_text;
 use ssa_session::read_command::LineFault;
 use std::alloc::{AllocError, Global};
 

@@ -6,8 +6,8 @@ ghost use Rattle.ssa_program.specs.Trouble.{IsDraftTrouble, IsPlaceTrouble, IsSa
 
 use crate::trouble::Trouble;
 use ssa_bench::bench::Bench;
-use ssa_file::saving::SaveFault;
 use ssa_json::sink::OfWriter;
+use ssa_lines::saving::SaveFault;
 use std::alloc::Global;
 use std::fs::{File, Metadata, OpenFile, OpenOptions, Permissions};
 use std::io::{ErrorKind, Write};

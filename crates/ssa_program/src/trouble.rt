@@ -12,13 +12,13 @@ ghost use Rattle.ssa_program.specs.declared.trouble.Trouble.TheVariants.{CannotP
 
 use crate::names::{named_line, push_name};
 use crate::status::Status;
-use ssa_file::loading::LoadFault;
 use ssa_json::fault_code::FaultCode;
 use ssa_json::sink::Sink;
 use ssa_json::source::DeviceFault;
-use ssa_session::fault_line::write_fault;
+use ssa_lines::fault_line::write_fault;
+use ssa_lines::loading::LoadFault;
+use ssa_lines::write_line::write_line;
 use ssa_session::files::{FileFault, tell};
-use ssa_session::write_line::write_line;
 use std::alloc::{AllocError, Global};
 
 /// Why a call of the program does not come to its reply, with the name of the file that it is told of.

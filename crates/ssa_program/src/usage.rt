@@ -5,9 +5,9 @@ ghost use Rattle.ssa_program.specs.Usage.{EndsByUsage, TellsUsage};
 
 use crate::status::Status;
 use crate::trouble::end_by_fault;
-use ssa_file::saving::write_text;
 use ssa_json::fault_code::FaultCode;
 use ssa_json::sink::Sink;
+use ssa_lines::saving::write_text;
 use ssa_words::usage::Usage;
 
 /// What is told of a word that is not UTF-8.

@@ -3,9 +3,9 @@
 use crate::sample::{IMAGE, web};
 use crate::sample_schema::SCHEMA;
 use ssa_bench::bench::Bench;
-use ssa_file::loading::LoadFault;
 use ssa_json::reader::OfReader;
 use ssa_json::sink::OfWriter;
+use ssa_lines::loading::LoadFault;
 use std::alloc::{AllocError, Global};
 use std::test::Fail;
 

@@ -1,5 +1,5 @@
 -- The texts of faults.
-use Rattle.std.proofs.Common.{◌≡◌, ◌≢◌, [], ◌∷◌, ◌++◌, refl, sym, ap, ◌∙◌}
+use Rattle.std.proofs.Common.{◌≡◌, ◌≢◌, refl, sym, ap, ◌∙◌}
 use Rattle.std.specs.Prelude.{Result, Ok, Err, IfOk, codes}
 use Rattle.ssa_model.specs.definitions.Json.{Text, Json, list, object, no_members, member, compact}
 use Rattle.ssa_model.specs.definitions.Path.{Path, element_text}
@@ -8,9 +8,8 @@ use Rattle.ssa_model.specs.definitions.Entries.{text_json}
 use Rattle.ssa_model.specs.definitions.History.{Bench, past_len, future_len}
 use Rattle.ssa_model.specs.definitions.Answers.{Fault, body_fault, nothing_to_undo, nothing_to_redo, Reply, fault, answer, undo, redo}
 use Rattle.ssa_model.specs.definitions.GivenEntries as entries
-use Rattle.ssa_model.specs.definitions.Faults as code
-use Rattle.ssa_model.specs.definitions.Faults.{Code, number_of, body_fault_code}
-use Rattle.ssa_model.specs.definitions.Replies.{number_json, with_fault, fault_json, entry_fault_json, fault_reply, reply_text}
+use Rattle.ssa_model.specs.definitions.Faults.{body_fault_code}
+use Rattle.ssa_model.specs.definitions.Replies.{with_fault, fault_json, entry_fault_json, fault_reply, reply_text}
 use Rattle.ssa_schema.specs.Finds.{told}
 use Rattle.ssa_schema.specs.declared.body_fault.BodyFault.{BodyFault}
 use Rattle.ssa_bench.specs.Faults.{IsFault, bench_code}
@@ -19,26 +18,8 @@ use Rattle.ssa_merge.specs.declared.entry_fault.EntryFault.{EntryFault}
 use Rattle.ssa_merge.specs.declared.entry_fault.EntryFault.TheVariants as faults
 use Rattle.ssa_bench.specs.declared.fault.Fault as engine
 use Rattle.ssa_bench.specs.declared.fault.Fault.TheVariants.{Body, Conflict, Entry, OutOfMemory}
-use Rattle.ssa_session.specs.Replies.{bench_json, code_members, name_end, told_json, entry_json}
+use Rattle.ssa_session.specs.Replies.{bench_json, told_json, entry_json}
 use Rattle.ssa_json.proofs.ItemTexts.{items_json-map}
-
--- ---- a code's text
-
--- the text that is written of a code is the one of its value
-pub code-text : (c : Code) → 123 ∷ (code_members c ++ 125 ∷ []) ≡ compact (fault_json c)
-code-text code.not_json = refl
-code-text _ = refl
-
--- the same of a line
-pub code-line : (c : Code) → (codes "{\"fault\":" ++ compact (number_json (number_of c))) ++ name_end c ≡ compact (fault_json c) ++ 10 ∷ []
-code-line code.not_json = refl
-code-line _ = refl
-
--- and of a fault with a path
-pub code-text-at : (c : Code) (path : Json) → 123 ∷ (code_members c ++ (codes ",\"path\":" ++ (compact path ++ 125 ∷ [])))
-    ≡ compact (object (with_fault c (member (codes "path") path no_members)))
-code-text-at code.not_json path = refl
-code-text-at _ path = refl
 
 -- ---- a fault with its path
 

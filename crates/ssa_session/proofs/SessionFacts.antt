@@ -4,10 +4,10 @@ use Rattle.std.proofs.lemmas.List.{append-nil}
 use Rattle.std.proofs.lemmas.Grind.{flat_map-append}
 use Rattle.std.proofs.KnownBytes.{Consumes-nil, Consumes-trans, Appends-nil, Appends-trans}
 use Rattle.std.specs.Io.KnownBytes.{Consumes, Appends, IsAtEnd}
-use Rattle.ssa_file.specs.declared.line.Line.{Line}
+use Rattle.ssa_lines.specs.declared.line.Line.{Line}
 use Rattle.ssa_model.specs.definitions.Limits.{most_line_bytes}
 use Rattle.ssa_model.specs.definitions.Lines.{line_feed, split_lines, whole_lines, unfinished_line, last_line, lines, ended, HasNoLineFeed}
-use Rattle.ssa_file.specs.Reading.{TakesLine}
+use Rattle.ssa_lines.specs.Reading.{TakesLine}
 use Rattle.ssa_json.specs.Devices.{AppendsPart}
 use Rattle.ssa_session.specs.Session.{IsAnswer, IsRefused, AnswersLine, Replies}
 use Rattle.ssa_session.specs.Outcome.{AnswersAll, AnswersWhole, AnswersPartly}

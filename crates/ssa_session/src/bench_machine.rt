@@ -10,7 +10,6 @@ ghost use Rattle.ssa_bench.specs.Faults.{IsFault};
 ghost use Rattle.ssa_session.specs.Commands.{command_view};
 
 use crate::command::Command;
-use crate::fault_line::code_text;
 use crate::fault_text::fault_text;
 use crate::log_text::log_text;
 use crate::machine::Machine;
@@ -20,6 +19,7 @@ use ssa_bench::bench::Bench;
 use ssa_bench::command as bench;
 use ssa_bench::fault::Fault;
 use ssa_json::reading_room::ReadingRoom;
+use ssa_lines::fault_line::code_text;
 use ssa_path::path::Path;
 use std::alloc::{AllocError, Global};
 

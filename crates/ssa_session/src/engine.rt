@@ -3,19 +3,19 @@ ghost use Rattle.std.specs.Prelude.{◌≡◌, ◌<◌, ℕ, List, true, OnOk, O
 ghost use Rattle.std.specs.Io.KnownBytes.{IsAtEnd, Appends};
 ghost use Rattle.ssa_json.specs.Devices.{AppendsPart};
 ghost use Rattle.ssa_model.specs.definitions.Limits.{most_line_bytes};
-ghost use Rattle.ssa_file.specs.Held.{Holds};
+ghost use Rattle.ssa_lines.specs.Held.{Holds};
 ghost use Rattle.ssa_session.specs.Session.{AnswersLine};
 ghost use Rattle.ssa_session.specs.Outcome.{AnswersAll, AnswersWhole, AnswersPartly};
 
-use crate::fault_line::write_fault;
 use crate::machine::Machine;
-use crate::write_line::write_reply;
-use ssa_file::line::Line;
-use ssa_file::read_line::{LineEnd, read_line};
 use ssa_json::fault_code::FaultCode;
 use ssa_json::reading_room::ReadingRoom;
 use ssa_json::sink::Sink;
 use ssa_json::source::{DeviceFault, Source};
+use ssa_lines::fault_line::write_fault;
+use ssa_lines::line::Line;
+use ssa_lines::read_line::{LineEnd, read_line};
+use ssa_lines::write_line::write_reply;
 use std::alloc::Global;
 use thiserror::Error;
 

@@ -5,8 +5,8 @@ ghost use Rattle.ssa_model.specs.definitions.GivenEntries.{absent_path};
 ghost use Rattle.ssa_model.specs.definitions.Replies.{entry_fault_json};
 ghost use Rattle.ssa_session.specs.Replies.{entry_json};
 
-use crate::fault_line::{push_code, push_members};
 use ssa_json::fault_code::FaultCode;
+use ssa_lines::fault_line::{push_code, push_members};
 use ssa_merge::entry_fault::EntryFault;
 use ssa_path::path::Path;
 use ssa_path::path_text::push_path;

@@ -9,12 +9,11 @@ ghost use Rattle.ssa_bench.specs.Faults.{IsFault};
 ghost use Rattle.ssa_session.specs.Replies.{bench_json, clashes_json, conflict_json, told_json};
 
 use crate::entry_fault_text::push_entry_fault;
-use crate::fault_line::{push_code, push_code_at, push_members};
-use crate::json_text::push_string;
-use crate::reply_text::FIRST_ROOM;
 use ssa_bench::fault::Fault;
 use ssa_json::fault_code::FaultCode;
 use ssa_json::write::push_comma;
+use ssa_lines::fault_line::{push_code, push_code_at, push_members};
+use ssa_lines::json_text::{FIRST_ROOM, push_string};
 use ssa_merge::manager::ManagerKey;
 use ssa_path::field_set::FieldSet;
 use ssa_path::path_text::push_paths;

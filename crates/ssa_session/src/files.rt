@@ -10,9 +10,7 @@ ghost use Rattle.ssa_session.specs.FileSessions.{IsHeld, IsTelling};
 
 use crate::bench_session::session;
 use crate::engine::SessionFault;
-use crate::fault_line::{code_text, write_fault};
 use crate::fault_text::fault_text;
-use crate::write_line::write_reply;
 use ssa_bench::bench::Bench;
 use ssa_bench::fault::Fault;
 use ssa_json::fault::JsonFault;
@@ -20,6 +18,8 @@ use ssa_json::fault_code::FaultCode;
 use ssa_json::sink::Sink;
 use ssa_json::source::{DeviceFault, Source};
 use ssa_json::value::Json;
+use ssa_lines::fault_line::{code_text, write_fault};
+use ssa_lines::write_line::write_reply;
 use ssa_schema::fault::SchemaFault;
 use ssa_schema::schema::Schema;
 use std::alloc::{AllocError, Global};

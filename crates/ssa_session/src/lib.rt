@@ -24,15 +24,12 @@ pub mod command;
 mod command_shape;
 pub mod engine;
 mod entry_fault_text;
-pub mod fault_line;
 pub mod fault_text;
 pub mod files;
-mod json_text;
 mod log_text;
 pub mod machine;
 pub mod read_command;
 pub mod reply_text;
-pub mod write_line;
 
 pub use bench_machine::answer_command;
 pub use bench_session::session;

@@ -5,8 +5,8 @@ ghost use Rattle.ssa_model.specs.definitions.Answers.{logged};
 ghost use Rattle.ssa_model.specs.definitions.Replies.{label_json, list_json, reply_json, reply_text};
 ghost use Rattle.ssa_turn.specs.Histories.{lent_labels};
 
-use crate::json_text::push_value;
 use ssa_json::write::push_comma;
+use ssa_lines::json_text::push_value;
 use ssa_turn::label::Label;
 use ssa_turn::timeline::Log;
 use std::alloc::{AllocError, Global};

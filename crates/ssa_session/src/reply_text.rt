@@ -8,17 +8,14 @@ ghost use Rattle.ssa_json.specs.View.{view};
 ghost use Rattle.ssa_merge.specs.Managers.{key_view, lent_keys};
 ghost use Rattle.ssa_bench.specs.Benches.{changed_view};
 
-use crate::json_text::{push_number, push_string, push_value};
 use ssa_bench::bench::Bench;
 use ssa_bench::prepared::Changed;
 use ssa_json::value::Json;
 use ssa_json::write::push_comma;
+use ssa_lines::json_text::{FIRST_ROOM, push_number, push_string, push_value};
 use ssa_merge::manager::ManagerKey;
 use ssa_path::path_text::push_paths;
 use std::alloc::{AllocError, Global};
-
-// The bytes that a reply has room for from the start, which most replies need.
-pub(crate) const FIRST_ROOM: usize = 240;
 
 /// The reply to a command that makes a state: what it changes.
 pub fn changed_text(alloc: Global, word: &str, changed: &Changed) -> Result<Vec<u8>, AllocError>

@@ -2,6 +2,9 @@
 use crate::bodies::{bodies, body, state};
 use ssa_bench::{Bench, Command};
 use ssa_file::{RecordCounts, record_counts};
+use ssa_json::OfReader;
+use ssa_lines::read_line::read_line;
+use ssa_lines::{Line, LineEnd};
 use ssa_merge::{Managers, is_manager_name};
 use ssa_object::body_value::body_value;
 use ssa_object::has_identity;
@@ -14,6 +17,19 @@ use ssa_turn::Label;
 use ssa_turn_body::steps_between;
 use ssa_turn_set::{between, turn_field_set};
 use std::test::Fail;
+
+#[test]
+fn ssa_lines_example(rt: HostRuntime) -> Result<(), Fail> {
+    let mut reader = OfReader::new(b"ab\ncd".as_slice());
+    let mut line = Line::new(rt.alloc());
+    let end = read_line(rt.alloc(), &mut reader, &mut line, 2);
+    assert_eq!(rt; end, Ok(LineEnd::LineFeed));
+    assert!(rt; matches!(line, Line::Kept(_)));
+    let end = read_line(rt.alloc(), &mut reader, &mut line, 1);
+    assert_eq!(rt; end, Ok(LineEnd::EndOfInput));
+    assert!(rt; matches!(line, Line::TooLong));
+    Ok(())
+}
 
 #[test]
 fn ssa_turn_set_example(rt: HostRuntime) -> Result<(), Fail> {

@@ -1,6 +1,6 @@
 //! Where lines end: a line feed is looked for many bytes at a time.
 
-use ssa_file::line::line_len;
+use ssa_lines::line::line_len;
 use std::alloc::{AllocError, Global};
 use std::test::Fail;
 

@@ -3,7 +3,7 @@
 use crate::commands::apply;
 use ssa_bench::bench::Bench;
 use ssa_bench::command::Command;
-use ssa_file::loading::LoadFault;
+use ssa_lines::loading::LoadFault;
 use ssa_samples::bench_files::{bench_file, loaded, saved};
 use ssa_samples::breaks::Breaks;
 use ssa_samples::sample::bench;

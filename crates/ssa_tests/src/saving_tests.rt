@@ -2,8 +2,8 @@
 
 use crate::commands::apply;
 use ssa_bench::bench::Bench;
-use ssa_file::saving::SaveFault;
 use ssa_json::sink::OfWriter;
+use ssa_lines::saving::SaveFault;
 use ssa_samples::bench_files::bench_file;
 use ssa_samples::marks::Marks;
 use ssa_samples::sample::{IMAGE, bench};

@@ -1,6 +1,6 @@
 use Rattle.std.proofs.Common.{Option, Ok, subst}
-use Rattle.ssa_file.specs.Loading.{ReadsValue}
-use Rattle.ssa_file.specs.declared.loading.FileLine.{FileLine}
+use Rattle.ssa_lines.specs.Loading.{ReadsValue}
+use Rattle.ssa_lines.specs.declared.loading.FileLine.{FileLine}
 use Rattle.ssa_bench.specs.Loading.{ReadsLine}
 use Rattle.ssa_bench.proofs.LoadedParts.{line-found, line-missing, line-fault, fault-handed}
 use Rattle.ssa_bench.proofs.load.next_line.Goals as goal

@@ -6,10 +6,10 @@ use Rattle.ssa_model.specs.definitions.Operations.{State}
 use Rattle.ssa_model.specs.definitions.RecordedBench.{record_head}
 use Rattle.ssa_model.proofs.ValidTimelines.{present_valid}
 use Rattle.ssa_json.specs.View.{view}
-use Rattle.ssa_file.specs.Saving.{bench_with}
+use Rattle.ssa_file.specs.Recording.{bench_with}
 use Rattle.ssa_file.proofs.RecordingFacts.{opening-is}
 use Rattle.ssa_model.proofs.Results.{handed-on}
-use Rattle.ssa_file.proofs.SavingFacts.{lines-refused}
+use Rattle.ssa_lines.proofs.SavingFacts.{lines-refused}
 use Rattle.ssa_file.proofs.recording.opening_text.Goals as goal
 
 pub object_of_state-requires : goal.object_of_state-requires

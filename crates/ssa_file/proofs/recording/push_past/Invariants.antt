@@ -3,8 +3,7 @@ use Rattle.std.specs.List.{All}
 use Rattle.ssa_model.specs.definitions.BenchText.{line}
 use Rattle.ssa_model.specs.definitions.Limits.{most_bench_bytes}
 use Rattle.ssa_json.specs.Writable.{IsOfProgram}
-use Rattle.ssa_file.specs.Recording.{past_values}
-use Rattle.ssa_file.specs.Saving.{bench_with}
+use Rattle.ssa_file.specs.Recording.{bench_with, past_values}
 use Rattle.ssa_file.proofs.RecordingFacts.{past_left}
 use Rattle.ssa_file.proofs.recording.push_past.Given as goal
 

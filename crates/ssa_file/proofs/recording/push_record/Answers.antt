@@ -6,10 +6,12 @@ use Rattle.ssa_model.specs.definitions.RecordedBench.{record_line}
 use Rattle.ssa_json.specs.Writable.{IsOfProgram}
 use Rattle.ssa_turn.specs.Histories.{label_view}
 use Rattle.ssa_turn_state.specs.States.{state_steps}
-use Rattle.ssa_file.specs.Saving.{CannotHold, bench_with}
-use Rattle.ssa_file.proofs.LineTexts.{line-ended}
+use Rattle.ssa_lines.specs.Saving.{CannotHold}
+use Rattle.ssa_file.specs.Recording.{bench_with}
+use Rattle.ssa_lines.proofs.SavingFacts.{line-ended}
 use Rattle.ssa_file.proofs.RecordingFacts.{kept-is, kept-takes}
-use Rattle.ssa_file.proofs.Walking.{if-err, step-there}
+use Rattle.ssa_file.proofs.Walking.{step-there}
+use Rattle.std.proofs.lemmas.Result.{IfErr-weaker}
 use Rattle.ssa_file.proofs.recording.push_record.Goals as goal
 use Rattle.std.proofs.lemmas.Result.{on_ok_weaker as on-ok}
 
@@ -56,7 +58,7 @@ returns-clause-refused c =
     let steps = state_steps c.in-Some.entry.0.now in
     let label = label_view c.in-Some.entry.1.now in
     let made = record_line (bench_with c.args.schema.now c.args.identity.now t) label (kept_from t n) (kept_to t n) in
-    if-err c.end_line.result _ _
+    IfErr-weaker c.end_line.result _ _
     (λ f h s here. subst (CannotHold f) (line-ended c.args.text.now.items made
     (c.in_ok-push_step-in-Some.ensures.text t (kept_from t n) (kept_to t n) (kept-takes c.args.schema.now.kind t n s steps c.requires.valid here c.in-Some.ensures.steps))
     ∙ ap (λ v. c.args.text.now.items ++ line v) (kept-is c.args.schema.now c.args.identity.now t n s label here c.in-Some.ensures.command))

@@ -3,11 +3,11 @@ use Rattle.std.proofs.Common.{[], ◌++◌, flat_map, ap, subst, ◌∙◌, appe
 use Rattle.std.proofs.lemmas.List.Elements.{All-append}
 use Rattle.ssa_model.specs.definitions.BenchText.{line}
 use Rattle.ssa_json.specs.Writable.{IsOfProgram}
-use Rattle.ssa_file.specs.Recording.{future_values, opening_values, past_values}
-use Rattle.ssa_file.specs.Saving.{CannotHold, bench_with}
+use Rattle.ssa_file.specs.Recording.{bench_with, future_values, opening_values, past_values}
+use Rattle.ssa_lines.specs.Saving.{CannotHold}
 use Rattle.ssa_file.proofs.RecordingFacts.{in-three}
 use Rattle.ssa_model.proofs.Results.{handed-on}
-use Rattle.ssa_file.proofs.SavingFacts.{lines-refused}
+use Rattle.ssa_lines.proofs.SavingFacts.{lines-refused}
 use Rattle.ssa_file.proofs.recording.recorded_text.Goals as goal
 
 pub returns-in_err-text-clause-refused : goal.returns-in_err-text-clause-refused

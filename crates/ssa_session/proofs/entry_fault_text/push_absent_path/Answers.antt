@@ -3,7 +3,7 @@ use Rattle.std.specs.Prelude.{codes}
 use Rattle.ssa_model.specs.definitions.Json.{compact}
 use Rattle.ssa_model.specs.definitions.Faults.{absent_path}
 use Rattle.ssa_model.specs.definitions.Replies.{path_json}
-use Rattle.ssa_session.specs.Replies.{code_members}
+use Rattle.ssa_lines.specs.FaultTexts.{code_members}
 use Rattle.ssa_json.proofs.ItemTexts.{joined}
 use Rattle.ssa_session.proofs.entry_fault_text.push_absent_path.Goals as goal
 

@@ -2,7 +2,8 @@ use Rattle.std.proofs.Common.{◌++◌}
 use Rattle.std.specs.Prelude.{codes}
 use Rattle.ssa_model.specs.definitions.Json.{compact}
 use Rattle.ssa_model.specs.definitions.Faults.{conflict}
-use Rattle.ssa_session.specs.Replies.{clashes_json, code_members}
+use Rattle.ssa_session.specs.Replies.{clashes_json}
+use Rattle.ssa_lines.specs.FaultTexts.{code_members}
 use Rattle.ssa_json.proofs.ItemTexts.{joined}
 use Rattle.ssa_session.proofs.fault_text.push_conflict.Goals as goal
 

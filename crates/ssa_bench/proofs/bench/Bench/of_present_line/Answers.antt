@@ -2,7 +2,7 @@ use Rattle.ssa_model.proofs.LoneBenches.{lone-parts}
 use Rattle.ssa_model.specs.laws.RecordedBenches.{present_in}
 use Rattle.ssa_json.specs.Readings.{readings}
 use Rattle.ssa_json.specs.View.{view}
-use Rattle.ssa_file.specs.declared.loading.LoadFault.TheVariants.{OutOfMemory}
+use Rattle.ssa_lines.specs.declared.loading.LoadFault.TheVariants.{OutOfMemory}
 use Rattle.ssa_bench.specs.Taking.{IsTaken}
 use Rattle.ssa_bench.proofs.LoadedParts.{fault-handed}
 use Rattle.ssa_bench.proofs.bench.Bench.of_present_line.Goals as goal

@@ -5,8 +5,8 @@ use Rattle.ssa_model.specs.definitions.Json.{Text}
 use Rattle.ssa_model.specs.definitions.RecordedBench.{recorded_text}
 use Rattle.ssa_json.specs.Devices.{AppendsPart}
 use Rattle.ssa_json.specs.Readings.{readings}
-use Rattle.ssa_file.specs.Saving.{NotSaved}
-use Rattle.ssa_file.specs.declared.saving.SaveFault.TheVariants.{Io}
+use Rattle.ssa_lines.specs.Saving.{NotSaved}
+use Rattle.ssa_lines.specs.declared.saving.SaveFault.TheVariants.{Io}
 use Rattle.ssa_model.proofs.Results.{handed-on}
 use Rattle.ssa_bench.proofs.SavedBench.{is-file, source-names}
 use Rattle.ssa_bench.proofs.bench.Bench.save.Goals as goal

@@ -1,0 +1,5 @@
+pub mod Held
+pub mod Reading
+pub mod Loading
+pub mod Saving
+pub mod FaultTexts
