@@ -57,3 +57,4 @@ pub mod Trees
 pub mod Unchanged
 pub mod Values
 pub mod NumberedChildren
+pub mod InPart

@@ -26,3 +26,4 @@ pub mod Tested
 pub mod Values
 pub mod Without
 pub mod Keyed
+pub mod InPart

@@ -4,10 +4,12 @@ ghost use Rattle.ssa_model.specs.definitions.Body.{over, points, record_branch, 
 ghost use Rattle.ssa_model.specs.definitions.Fitting.{IsBodyOf};
 ghost use Rattle.ssa_model.specs.definitions.Kind.{Kind};
 ghost use Rattle.ssa_model.specs.definitions.Objects.{shown};
+ghost use Rattle.ssa_model.specs.definitions.Parts.{part_of, spliced};
 ghost use Rattle.ssa_model.specs.definitions.Path.{under};
 ghost use Rattle.ssa_model.specs.definitions.Path as model;
 ghost use Rattle.ssa_model.specs.definitions.PathMap.{from_entries, has, paths, set_of, size};
 ghost use Rattle.ssa_json.specs.View.{view};
+ghost use Rattle.ssa_path.specs.Subresources.{part_view};
 ghost use Rattle.ssa_model.specs.definitions.Lawful.{is_lawful, is_ordered};
 ghost use Rattle.ssa_model.specs.definitions.Valid.{IsRooted};
 ghost use Rattle.ssa_typed.specs.Alike.{AreAlike};
@@ -20,6 +22,7 @@ ghost use Rattle.ssa_typed.specs.Reached.{PartsAreOfPlaces, PointsKeepAll, Point
 ghost use Rattle.ssa_typed.specs.Rows.{body_of, is_tree};
 
 use crate::compare::{Comparison, Scope, differing_parts};
+use crate::in_part::{keep_part, splice};
 use crate::keeps_order::keeps_order;
 use crate::lacking::lacking_paths;
 use crate::lost_with::fallen_paths;
@@ -29,6 +32,7 @@ use crate::part::PartComparison;
 use crate::without::node_without;
 use ssa_json::value::Json;
 use ssa_path::field_set::FieldSet;
+use ssa_path::part::Part;
 use ssa_path::path::Path;
 use std::alloc::{AllocError, Global};
 use std::marker::Model;
@@ -237,6 +241,24 @@ impl Body {
         ensures { IfOk result (λ b. b ≡ restricted self (λ p. not (has gone.now p))) }
     {
         let root = node_without(alloc, self.root, &gone.root().below)?;
+        Ok(Body { root })
+    }
+
+    /// Leaves of the body its root and what is of the part. Takes no memory.
+    pub fn keep_part(&mut self, part: Part)
+        ensures { self.new ≡ part_of (part_view part) self.old }
+    {
+        keep_part(&mut self.root, part);
+    }
+
+    /// This body in the part, and the other one outside it, with the orders of each.
+    ///
+    /// What is taken of this body is moved, and what is taken of the other is copied: of a body without `status` nothing for
+    /// [`Part::Main`], and for [`Part::Status`] all but `status`.
+    pub fn splice(self, alloc: Global, rest: &Body, part: Part) -> Result<Body, AllocError>
+        ensures { IfOk result (λ b. b ≡ spliced (part_view part) self rest.now) }
+    {
+        let root = splice(alloc, self.root, &rest.root, part)?;
         Ok(Body { root })
     }
 
