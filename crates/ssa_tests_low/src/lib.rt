@@ -26,6 +26,8 @@ mod merge_tests;
 #[cfg(test)]
 mod name_tests;
 #[cfg(test)]
+mod part_tests;
+#[cfg(test)]
 mod questions;
 #[cfg(test)]
 mod samples;

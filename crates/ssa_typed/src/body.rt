@@ -22,7 +22,7 @@ ghost use Rattle.ssa_typed.specs.Reached.{PartsAreOfPlaces, PointsKeepAll, Point
 ghost use Rattle.ssa_typed.specs.Rows.{body_of, is_tree};
 
 use crate::compare::{Comparison, Scope, differing_parts};
-use crate::in_part::{keep_part, splice};
+use crate::in_part::{into_part, splice};
 use crate::keeps_order::keeps_order;
 use crate::lacking::lacking_paths;
 use crate::lost_with::fallen_paths;
@@ -244,11 +244,12 @@ impl Body {
         Ok(Body { root })
     }
 
-    /// Leaves of the body its root and what is of the part. Takes no memory.
-    pub fn keep_part(&mut self, part: Part)
-        ensures { self.new ≡ part_of (part_view part) self.old }
+    /// The body's root, with what is of the part. Takes no memory.
+    pub fn into_part(self, part: Part) -> Body
+        ensures { result ≡ part_of (part_view part) self }
     {
-        keep_part(&mut self.root, part);
+        let root = into_part(self.root, part);
+        Body { root }
     }
 
     /// This body in the part, and the other one outside it, with the orders of each.

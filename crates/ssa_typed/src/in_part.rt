@@ -22,15 +22,17 @@ fn keep_children(children: &mut Vec<(Elem, Node)>, part: Part)
     }
 }
 
-// Leaves of a record what is of the part. Takes no memory.
-pub(crate) fn keep_part(root: &mut Node, part: Part)
-    requires { IsRecord root.old }
-    ensures { IsInPart (part_view part) root.old root.new }
+// The record's root, with what is of the part. Takes no memory.
+pub(crate) fn into_part(root: Node, part: Part) -> Node
+    requires { IsRecord root }
+    ensures { IsInPart (part_view part) root result }
 {
     let Node::Branch(children) = root else {
         unreachable!("the root is a record");
     };
-    keep_children(children, part);
+    let mut own = children;
+    keep_children(&mut own, part);
+    Node::Branch(own)
 }
 
 // Copies of the children that are not of the part.
