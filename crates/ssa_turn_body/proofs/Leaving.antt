@@ -21,6 +21,7 @@ use Rattle.ssa_typed.specs.Restricted.{part_at}
 use Rattle.ssa_typed.specs.Rows.{below, content_at, is_tree, own_content, rows}
 use Rattle.ssa_typed.specs.declared.node.Node.{Node}
 use Rattle.ssa_typed.specs.declared.node.Node.TheViews.{out-Node}
+use Rattle.ssa_typed.proofs.KeepingOrder.{nothing-ordered}
 use Rattle.ssa_typed.proofs.Lookups.{content-level, content-root}
 use Rattle.ssa_typed.proofs.OverNodes.{below-leaf}
 use Rattle.ssa_typed.proofs.Restricting.{below_set, filter-apart, filter-fields, filter-items, filter-rises, part-false}
@@ -72,15 +73,6 @@ unlooked gone n tree none = record { tree = tree; content = λ p. sym (whole-par
 pub unlooked-applying : (p : Path) (gone : Gone) (n : Node) (steps : List Step) → is_tree n ≡ true → ((q : Path) → gone q ≡ false)
     → IsApplying p gone n None steps steps
 unlooked-applying p gone n steps tree none = (n, unlooked gone n tree (λ q there. none q), leading-same p (marks n) (marks n) steps steps refl (λ q. refl))
-
--- beside nothing, nothing stands in another order
-nothing-ordered : (o : Option Content) → is_reordered o None ≡ false
-nothing-ordered None = refl
-nothing-ordered (Some (leaf s)) = refl
-nothing-ordered (Some (atom v)) = refl
-nothing-ordered (Some record_branch) = refl
-nothing-ordered (Some dict_branch) = refl
-nothing-ordered (Some (list_branch es)) = refl
 
 none-of : (es : List Element) → filter (λ e. is_among e []) es ≡ []
 none-of [] = refl

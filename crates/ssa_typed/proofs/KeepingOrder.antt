@@ -24,19 +24,19 @@ use Rattle.ssa_typed.proofs.SortedOut.{absent-none, is_absent, new-place}
 
 -- ---- one level
 
--- where the second has nothing, nothing stands in another order
-lacked : (c : Option Content) → is_reordered c None ≡ false
-lacked None = refl
-lacked (Some (leaf s)) = refl
-lacked (Some (atom v)) = refl
-lacked (Some record_branch) = refl
-lacked (Some dict_branch) = refl
-lacked (Some (list_branch es)) = refl
+-- beside nothing, nothing stands in another order
+pub nothing-ordered : (c : Option Content) → is_reordered c None ≡ false
+nothing-ordered None = refl
+nothing-ordered (Some (leaf s)) = refl
+nothing-ordered (Some (atom v)) = refl
+nothing-ordered (Some record_branch) = refl
+nothing-ordered (Some dict_branch) = refl
+nothing-ordered (Some (list_branch es)) = refl
 
 in-order-below : (x y : Option Node) → ((c d : Node) → x ≡ Some c → y ≡ Some d → TreeKeepsOrder c d) → (p : Path)
     → is_reordered (content_in x p) (content_in y p) ≡ false
 in-order-below None y h p = refl
-in-order-below (Some c) None h p = lacked (content_at (rows c) p)
+in-order-below (Some c) None h p = nothing-ordered (content_at (rows c) p)
 in-order-below (Some c) (Some d) h p = h c d refl refl p
 
 -- where the places themselves and their children keep the order, so do the trees
