@@ -88,9 +88,15 @@ def compare(before, after):
 
 
 def merged_order(live, configured):
-    """The order of a list that both have: live items keep theirs, the configuration's own follow in its order."""
-    common = set(live)
-    return live + tuple(element for element in configured if element not in common)
+    """The order of a list that both have.
+
+    The places that hold items of both are refilled with these in the configuration's order, the other live items keep theirs, and what
+    the configuration alone has follows in its order.
+    """
+    own, others = set(live), set(configured)
+    both = iter([element for element in configured if element in own])
+    refilled = [next(both) if element in others else element for element in live]
+    return (*refilled, *(element for element in configured if element not in own))
 
 
 def over(live, config):

@@ -2,7 +2,7 @@
 import json
 
 from .bodies import METADATA, is_ownable, restrict, value_at
-from .drawn_values import permuted, some_value, spelled, spoiled, spoiled_bytes, varied
+from .drawn_values import led, permuted, some_value, spelled, spoiled, spoiled_bytes, varied
 from .paths import beginnings, fields_v1
 from .schemas import Record
 from .values import text
@@ -40,12 +40,13 @@ def owned_value(bench, name):
 
 
 def some_object(dice, bench, name):
-    """An object for a manager: a new one, or one near the live object or near what the manager owns, perhaps but for orders."""
-    how = dice.below(16)
+    """An object for a manager: a new one, or one near the live object or near what the manager owns, perhaps but for the orders of its
+    lists, or but for these and for items that are left out and that come."""
+    how = dice.below(18)
     if how < 11:
         return identified(new_value(dice, bench.kind), bench.identity)
-    value = value_at(bench.state().body) if how < 14 else owned_value(bench, name)
-    make = permuted if how in (13, 15) else varied
+    value = value_at(bench.state().body) if how < 15 else owned_value(bench, name)
+    make = {11: led, 12: permuted, 15: led, 16: permuted}.get(how, varied)
     return identified(make(dice, bench.kind, value), bench.identity)
 
 

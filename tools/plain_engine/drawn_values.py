@@ -90,6 +90,17 @@ def permuted(dice, kind, value):
     return reordered(dice, [permuted(dice, kind.item, it) for it in value]) if isinstance(kind, ItemsOf) else value
 
 
+def led(dice, kind, value):
+    """The same value, but that of its sets and map lists, nested ones too, some items are left out, new ones come among the others and all
+    are shuffled."""
+    if isinstance(kind, (Record, Dict)):
+        return {name: led(dice, kind.entry if isinstance(kind, Dict) else kind.fields[name], it) for name, it in value.items()}
+    if not isinstance(kind, (SetOf, ItemsOf)):
+        return value
+    left = [led(dice, kind.item, item) for item in value if not dice.one_in(4)]
+    return dice.shuffled(distinct(kind, left + (some_value(dice, kind) if dice.one_in(2) else [])))
+
+
 def reordered(dice, items):
     how = dice.below(4)
     if how == 0:

@@ -2,11 +2,12 @@
 import json
 
 from .benches import read_object
+from .bodies import value_at
 from .dice import Dice
-from .drawn_commands import (bad_line, identified, moment, new_value, of_crowd, some_change, some_command, some_deed, some_path,
-                             with_entries)
+from .drawn_commands import (bad_line, identified, moment, new_value, of_crowd, owned_value, some_change, some_command, some_deed,
+                             some_path, with_entries)
 from .drawn_schemas import EVERY_KIND, some_schema
-from .drawn_values import spelled, spoiled, spoiled_bytes
+from .drawn_values import led, permuted, spelled, spoiled, spoiled_bytes
 from .play import Play
 from .schemas import read_schema
 from .values import text
@@ -80,6 +81,24 @@ def crowded(dice, play):
         if play.bench() is None:
             return
         give(dice, play, some_command(dice, play.bench(), step))
+
+
+def long_lists(dice, play):
+    """Lists of many items, nested ones too, configured and updated in other orders, with some left out and new ones among them."""
+    begin(dice, play, EVERY_KIND, IDENTITIES[0], 0)
+    names, numbers = ['h%02d' % number for number in range(24)], range(20, 36)
+    rows = [{'id': number, 'marks': dice.some(numbers, 3), 'on': dice.one_in(2)} for number in numbers[:10]]
+    value = {'hosts': dice.shuffled(names), 'numbers': dice.shuffled(numbers),
+             'ports': [{'name': dice.pick('ab'), 'port': number, 'proto': dice.pick('xy')} for number in dice.shuffled(numbers)],
+             'groups': [{'name': name, 'hosts': dice.some(names), 'rows': rows} for name in names[:2]]}
+    for step in range(12):
+        if step:
+            value = value_at(play.bench().state().body) if dice.one_in(2) else owned_value(play.bench(), 'a')
+        given = identified(dice.pick((led, led, permuted))(dice, play.bench().kind, value), IDENTITIES[0])
+        word = dice.pick(('apply', 'apply', 'apply', 'update'))
+        give(dice, play, {'at': moment(step), 'do': word, 'manager': dice.pick(('a', 'm2')), 'object': given})
+        for word in dice.some(('undo', 'redo'), 5):
+            give(dice, play, {'do': word})
 
 
 def words(dice, play):
@@ -214,7 +233,7 @@ def limits(dice, play):
 
 
 # How many stories of each kind are drawn for a seed; those of limits are the same for all.
-STORIES = {great: 1, small: 100, crowded: 6, words: 16, starts: 30, damaged: 24}
+STORIES = {great: 1, small: 100, crowded: 6, long_lists: 4, words: 16, starts: 30, damaged: 24}
 
 
 def jobs(seeds, times):

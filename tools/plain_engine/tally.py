@@ -17,11 +17,12 @@ RECORD = ('changed', 'cut', 'gone', 'here', 'leaves', 'order', 'put', 'gain', 'l
 REFUSALS = tuple(NAMES.values())
 BODY = ('nested lists', 'atomic lists', 'atomic maps', 'empty sets', 'empty maps', 'empty records', 'empty map lists', 'entries of maps',
         'items of two keys', 'names that need escapes', 'texts ordered otherwise than their values', 'owned branches', 'shared paths')
-DONE = ('a repeated apply', 'only an order changed', 'a moment kept', 'a moment renewed', 'a manager leaves', 'a manager is new',
-        'force takes some and leaves some', 'given up and kept by another', 'given up and gone', 'a key field given up stays',
-        'an emptied parent goes', 'a given-up branch')
+DONE = ('a repeated apply', 'only an order changed', 'an apply of an order alone', 'a moment kept', 'a moment renewed',
+        'a manager leaves', 'a manager is new', 'force takes some and leaves some', 'given up and kept by another', 'given up and gone',
+        'a key field given up stays', 'an emptied parent goes', 'a given-up branch')
 ORDERS = ('configured in another order', 'inside an item in another order', 'some left out in another order',
-          'new ones among others in another order', 'updated in another order', 'a map list in another order')
+          'new ones among others in another order', 'updated in another order', 'a map list in another order',
+          'many in another order', 'others between those in another order')
 CALLS = ('init', 'session', *(word + ' by words' for word in ('apply', 'update', 'strip', 'undo', 'redo', 'show', 'owners', 'log')),
          'file', 'a changed file is taken', 'status 0', 'status 1', 'status 3', 'files compared', 'history of 1,000')
 # What the stories of each seed have to meet, and what all stories together.
@@ -158,8 +159,10 @@ class Tally:
         old, new = ({row.key: row for row in state.table} for state in (before, after))
         mine, now = old.get(key), new.get(key)
         self.add('a repeated apply', before == after)
-        self.add('only an order changed', before.body != after.body and before.table == after.table and not any(
-            said[name] for name in ('added', 'modified', 'removed')))
+        is_order = before.body != after.body and before.table == after.table and not any(
+            said[name] for name in ('added', 'modified', 'removed'))
+        self.add('only an order changed', is_order)
+        self.add('an apply of an order alone', is_order and word == 'apply')
         if mine and now:
             self.add('a moment kept' if mine.at == now.at else 'a moment renewed')
         self.add('a manager leaves', len(old.keys() - new.keys()))
@@ -195,6 +198,9 @@ class Tally:
         else:
             self.add('configured in another order')
             self.add('some left out in another order', len(theirs) < len(live))
+            between = live[live.index(theirs[0]):live.index(theirs[-1])]
+            self.add('others between those in another order', not common.issuperset(between))
+            self.add('many in another order', len(live) > 8)
             self.add('new ones among others in another order', len(given) > len(ours) and given[-1] in common)
         self.add('inside an item in another order', any(map(is_item, path)))
         self.add('a map list in another order', given[0].startswith('k:'))

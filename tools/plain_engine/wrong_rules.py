@@ -4,7 +4,8 @@
 """
 from . import benches, bodies, files, operations, paths, records, tables
 
-over, compare, points, seat, clashes = bodies.over, bodies.compare, bodies.points, tables.seat, operations.clashes
+over, merged_order, compare, points = bodies.over, bodies.merged_order, bodies.compare, bodies.points
+seat, clashes = tables.seat, operations.clashes
 change, keep, move, read_fields, carried = benches.Bench.change, benches.Bench.keep, benches.Bench.move, paths.read_fields_v1, records.carried
 
 
@@ -12,11 +13,23 @@ def configuration_first(live, configured):
     return configured + tuple(element for element in live if element not in configured)
 
 
-def live_order_turned(live, configured):
-    """As if the order of the configuration led for the items of both."""
-    common = iter([element for element in configured if element in live])
-    return tuple(next(common) if element in configured else element for element in live) + tuple(
-        element for element in configured if element not in live)
+def live_order_kept(live, configured):
+    """As if the live items all kept their places."""
+    return live + tuple(element for element in configured if element not in live)
+
+
+def own_items_before_others(live, configured):
+    """The live items refilled in the configuration's order, but behind what the configuration alone has."""
+    made = merged_order(live, configured)
+    return made[len(live):] + made[:len(live)]
+
+
+def configured_items_together(live, configured):
+    """As if all items of both stood where the first of them stands."""
+    both = [element for element in configured if element in live]
+    place = next((place for place, element in enumerate(live) if element in both), len(live))
+    others = [element for element in live if element not in both]
+    return (*others[:place], *both, *others[place:], *(element for element in configured if element not in live))
 
 
 def shared_paths_dropped(table, act, config):
@@ -161,7 +174,8 @@ def all_changed_paths_cut(first, second):
 
 # By its name: where it belongs (a module or class, and what it takes the place of), and the wrong rule.
 WRONG = {it[2].__name__: it for it in (
-    (bodies, 'merged_order', configuration_first), (bodies, 'merged_order', live_order_turned),
+    (bodies, 'merged_order', configuration_first), (bodies, 'merged_order', live_order_kept),
+    (bodies, 'merged_order', own_items_before_others), (bodies, 'merged_order', configured_items_together),
     (operations, 'dropped', shared_paths_dropped), (operations, 'dropped', key_fields_dropped),
     (operations, 'dropped', branches_below_others_dropped),
     (operations, 'clashes', first_conflict_only), (operations, 'clashes', clashes_of_equal_values),

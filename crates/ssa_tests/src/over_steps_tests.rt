@@ -17,7 +17,7 @@ use std::alloc::Global;
 use std::test::Fail;
 
 // An Apply of a configuration by m1: the live body, what m1 owns of it and what m2 owns, and what the Apply makes of the
-// body. Where m2 owns nothing, it is no manager.
+// body: the body after it, where that was made whole, else its record. Where m2 owns nothing, it is no manager.
 struct Case {
     live: &'static str,
     own: &'static str,
@@ -83,7 +83,7 @@ fn made_under(alloc: Global, schema: &Schema, case: &Case) -> Result<String, Fai
     } = change;
     match body {
         NewBody::Same => Ok(String::from_str(alloc, "as it was")?),
-        NewBody::Whole(_) => Ok(String::from_str(alloc, "a whole body")?),
+        NewBody::Whole(body) => Ok(body.to_json(alloc)?.to_string(alloc)?),
         NewBody::Over(config) => {
             let steps = steps_over(alloc, &state.body, config, &comparison.removed)?;
             record_text(alloc, &steps)
@@ -306,15 +306,16 @@ fn a_repeated_configuration_leaves_the_body(rt: HostRuntime) -> Result<(), Fail>
     Ok(())
 }
 
-// What is there with items in another order: of a set, of a map list with a leaf beside it, and with an item that comes.
-const REORDERED: [Case; 3] = [
+// Items of both in another order: of a set; of a map list, each over its own live item, with a leaf beside it; with an item that
+// comes; with one that comes and two that are not configured; and with one that goes.
+const REORDERED: [Case; 5] = [
     Case {
         live: r#"{"spec":{"hosts":["a","b"],"image":"a"}}"#,
         own: r#"{"f:spec":{"f:hosts":{"v:\"a\"":{},"v:\"b\"":{}}}}"#,
         other: r#"{"f:spec":{"f:hosts":{"v:\"a\"":{}}}}"#,
         config: r#"{"spec":{"hosts":["b","a"]}}"#,
         force: false,
-        made: "a whole body",
+        made: r#"{"spec":{"hosts":["b","a"],"image":"a"}}"#,
     },
     Case {
         live: r#"{"spec":{"image":"a","ports":[{"name":"a","port":1},{"name":"b","port":2}]}}"#,
@@ -322,7 +323,7 @@ const REORDERED: [Case; 3] = [
         other: "",
         config: r#"{"spec":{"image":"b","ports":[{"name":"b"},{"name":"a"}]}}"#,
         force: false,
-        made: "a whole body",
+        made: r#"{"spec":{"image":"b","ports":[{"name":"b","port":2},{"name":"a","port":1}]}}"#,
     },
     Case {
         live: r#"{"spec":{"hosts":["a","b"]}}"#,
@@ -330,12 +331,28 @@ const REORDERED: [Case; 3] = [
         other: "",
         config: r#"{"spec":{"hosts":["b","c","a"]}}"#,
         force: false,
-        made: "a whole body",
+        made: r#"{"spec":{"hosts":["b","a","c"]}}"#,
+    },
+    Case {
+        live: r#"{"spec":{"hosts":["a","b","c","d"]}}"#,
+        own: r#"{"f:spec":{"f:hosts":{"v:\"a\"":{}}}}"#,
+        other: r#"{"f:spec":{"f:hosts":{"v:\"b\"":{}}}}"#,
+        config: r#"{"spec":{"hosts":["d","x","a"]}}"#,
+        force: false,
+        made: r#"{"spec":{"hosts":["d","b","c","a","x"]}}"#,
+    },
+    Case {
+        live: r#"{"spec":{"hosts":["a","b","c"]}}"#,
+        own: r#"{"f:spec":{"f:hosts":{"v:\"a\"":{},"v:\"b\"":{},"v:\"c\"":{}}}}"#,
+        other: "",
+        config: r#"{"spec":{"hosts":["c","a"]}}"#,
+        force: false,
+        made: r#"{"spec":{"hosts":["c","a"]}}"#,
     },
 ];
 
 #[test]
-fn a_reordered_configuration_makes_a_whole_body(rt: HostRuntime) -> Result<(), Fail> {
+fn a_reordered_configuration_leads(rt: HostRuntime) -> Result<(), Fail> {
     for case in &REORDERED {
         is_made(rt.alloc(), case)?;
     }

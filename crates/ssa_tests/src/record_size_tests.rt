@@ -114,6 +114,45 @@ fn items_change_their_order(rt: HostRuntime) -> Result<(), Fail> {
 }
 
 #[test]
+fn an_order_that_is_applied_is_held_alone(rt: HostRuntime) -> Result<(), Fail> {
+    let held = back_and_forth(
+        rt.alloc(),
+        &[
+            ("1", Way::Apply, "m1", ",\"spec\":{\"hosts\":[\"a\",\"b\"]}"),
+            ("2", Way::Apply, "m1", ",\"spec\":{\"hosts\":[\"b\",\"a\"]}"),
+        ],
+    );
+    // The two items, in the order before and in that after.
+    assert_eq!(rt; held?, (2, 2));
+    Ok(())
+}
+
+#[test]
+fn an_item_comes_where_others_change_their_order(rt: HostRuntime) -> Result<(), Fail> {
+    let held = back_and_forth(
+        rt.alloc(),
+        &[
+            (
+                "1",
+                Way::Update,
+                "u",
+                ",\"spec\":{\"hosts\":[\"a\",\"b\",\"c\",\"d\"]}",
+            ),
+            (
+                "2",
+                Way::Apply,
+                "m1",
+                ",\"spec\":{\"hosts\":[\"d\",\"x\",\"a\"]}",
+            ),
+        ],
+    );
+    // Back the new item is cut, the four have their order, and m1 is gone. Forth the item is put, the five have theirs, and m1
+    // comes with three paths.
+    assert_eq!(rt; held?, (6, 10));
+    Ok(())
+}
+
+#[test]
 fn a_repeated_apply_holds_nothing(rt: HostRuntime) -> Result<(), Fail> {
     let held = back_and_forth(
         rt.alloc(),

@@ -8,9 +8,33 @@ use ssa_typed::compare::Comparison;
 use std::alloc::Global;
 use std::test::Fail;
 
-// A live body and a configuration, and the one with the other over it.
-const OVER: [(&str, &str, &str); 6] = [
+// A live body and a configuration, and the one with the other over it: with items of both, of the live body alone and of the
+// configuration alone, in one order and in others; items of a map list laid each over its own live item, wherever it then
+// stands; fields and entries; and an atomic list.
+const OVER: [(&str, &str, &str); 13] = [
     (r#"{"s":[2,1]}"#, r#"{"s":[3,2]}"#, r#"{"s":[2,1,3]}"#),
+    (r#"{"s":[1,2]}"#, r#"{"s":[2,1]}"#, r#"{"s":[2,1]}"#),
+    (
+        r#"{"s":[1,2,3,4]}"#,
+        r#"{"s":[4,9,1]}"#,
+        r#"{"s":[4,2,3,1,9]}"#,
+    ),
+    (r#"{"s":[1,2]}"#, r#"{"s":[3,1,2]}"#, r#"{"s":[1,2,3]}"#),
+    (
+        r#"{"s":[5,1,6,2,7,3]}"#,
+        r#"{"s":[8,3,2,9,1]}"#,
+        r#"{"s":[5,3,6,2,7,1,8,9]}"#,
+    ),
+    (
+        r#"{"s":[11,4,7,2,9,1,3,12,5,8,6,10]}"#,
+        r#"{"s":[11,7,0,2,1,3,8,12,6,10]}"#,
+        r#"{"s":[11,4,7,2,9,1,3,8,5,12,6,10,0]}"#,
+    ),
+    (
+        r#"{"s":[11,4,7,2,9,1,3,12,5,8,6,10]}"#,
+        r#"{"s":[10,6,8,12,3,1,2,7,11,0]}"#,
+        r#"{"s":[10,4,6,8,9,12,3,1,5,2,7,11,0]}"#,
+    ),
     (
         r#"{"l":[{"n":2,"t":1},{"n":1}]}"#,
         r#"{"l":[{"n":3},{"n":2,"t":3}]}"#,
@@ -19,7 +43,12 @@ const OVER: [(&str, &str, &str); 6] = [
     (
         r#"{"l":[{"n":1,"t":1},{"n":2,"t":1},{"n":3,"t":1}]}"#,
         r#"{"l":[{"n":8,"t":2},{"n":3,"t":3},{"n":5,"t":2},{"n":1,"t":3}]}"#,
-        r#"{"l":[{"n":1,"t":3},{"n":2,"t":1},{"n":3,"t":3},{"n":8,"t":2},{"n":5,"t":2}]}"#,
+        r#"{"l":[{"n":3,"t":3},{"n":2,"t":1},{"n":1,"t":3},{"n":8,"t":2},{"n":5,"t":2}]}"#,
+    ),
+    (
+        r#"{"l":[{"n":1,"t":1},{"n":2,"t":2},{"n":3}]}"#,
+        r#"{"l":[{"n":3},{"n":1}]}"#,
+        r#"{"l":[{"n":3},{"n":2,"t":2},{"n":1,"t":1}]}"#,
     ),
     (
         r#"{"l":[{"n":1,"t":1},{"n":2}]}"#,
@@ -38,15 +67,14 @@ const OVER: [(&str, &str, &str); 6] = [
 pub enum AskedOver {
     /// What the one with the other over it is.
     Shown,
-    /// Whether it is told, before anything is merged, to be as it was.
-    Left,
+    /// Whether the configuration is told to repeat what is there, in whatever order its items stand.
+    Repeats,
 }
 
-// Whether the live body is told to be as it was.
-fn told_left(alloc: Global, live: &Body, config: &Body) -> Result<String, Fail> {
+// Whether the configuration is told to repeat what is there.
+fn told_repeats(alloc: Global, live: &Body, config: &Body) -> Result<String, Fail> {
     let told = live.compare_part(alloc, config)?;
-    let text = if told.repeats { "as it was" } else { "other" };
-    Ok(String::from_str(alloc, text)?)
+    truth(alloc, told.repeats)
 }
 
 /// The answer of their texts.
@@ -59,40 +87,40 @@ pub fn told_over(
     let (live, config) = bodies(alloc, PLACES, live, config)?;
     match asked {
         AskedOver::Shown => shown(alloc, &live.over(alloc, config)?),
-        AskedOver::Left => told_left(alloc, &live, &config),
+        AskedOver::Repeats => told_repeats(alloc, &live, &config),
     }
 }
 
-// A live body and a configuration, and whether the one with the other over it is told to be as it was.
-const LEFT: [(&str, &str, &str); 12] = [
+// A live body and a configuration, and whether it is told to repeat what is there, in whatever order its items stand.
+const REPEATS: [(&str, &str, &str); 12] = [
     (
         r#"{"a":1,"d":{"x":1},"l":[{"n":2,"t":1},{"n":1}],"s":[2,1],"v":[1,2]}"#,
         r#"{"a":1,"d":{"x":1},"l":[{"n":2,"t":1},{"n":1}],"s":[2,1],"v":[1,2]}"#,
-        "as it was",
+        "true",
     ),
     (
         r#"{"a":1,"d":{"x":1,"z":1},"l":[{"n":2,"t":1},{"n":1}],"r":{"x":1},"s":[2,1]}"#,
         r#"{"d":{"z":1},"l":[{"n":1}],"r":{},"s":[1]}"#,
-        "as it was",
+        "true",
     ),
-    (r#"{"s":[3,2,1]}"#, r#"{"s":[1,3,2]}"#, "as it was"),
+    (r#"{"s":[3,2,1]}"#, r#"{"s":[1,3,2]}"#, "true"),
     (
         r#"{"l":[{"n":2,"t":1},{"n":1}]}"#,
         r#"{"l":[{"n":1},{"n":2,"t":1}]}"#,
-        "as it was",
+        "true",
     ),
-    (r#"{"a":1}"#, r#"{"a":2}"#, "other"),
-    (r#"{"d":{"x":1,"z":1}}"#, r#"{"d":{"x":2,"z":1}}"#, "other"),
+    (r#"{"a":1}"#, r#"{"a":2}"#, "false"),
+    (r#"{"d":{"x":1,"z":1}}"#, r#"{"d":{"x":2,"z":1}}"#, "false"),
     (
         r#"{"l":[{"n":2,"t":1},{"n":1}]}"#,
         r#"{"l":[{"n":2,"t":2}]}"#,
-        "other",
+        "false",
     ),
-    (r#"{"s":[2,1]}"#, r#"{"s":[2,1,3]}"#, "other"),
-    (r#"{"s":[2,1]}"#, r#"{"s":[0,1,2]}"#, "other"),
-    (r#"{"a":1}"#, r#"{"a":1,"r":{"x":1}}"#, "other"),
-    (r#"{"l":[{"n":1}]}"#, r#"{"l":[{"n":1,"t":1}]}"#, "other"),
-    (r#"{"v":[1,2]}"#, r#"{"v":[2,1]}"#, "other"),
+    (r#"{"s":[2,1]}"#, r#"{"s":[2,1,3]}"#, "false"),
+    (r#"{"s":[2,1]}"#, r#"{"s":[0,1,2]}"#, "false"),
+    (r#"{"a":1}"#, r#"{"a":1,"r":{"x":1}}"#, "false"),
+    (r#"{"l":[{"n":1}]}"#, r#"{"l":[{"n":1,"t":1}]}"#, "false"),
+    (r#"{"v":[1,2]}"#, r#"{"v":[2,1]}"#, "false"),
 ];
 
 // A body and one that comes after it, and the paths added, modified and removed. The last five differ between items that are
@@ -151,7 +179,7 @@ fn compared(alloc: Global, before: &Body, after: &Body) -> Result<String, Fail> 
     told(alloc, &before.compare(alloc, after)?)
 }
 
-// A body and a part that is put over it, the paths that it adds and modifies, and whether it leaves the body as it is: with
+// A body and a part that is put over it, the paths that it adds and modifies, and whether it repeats what is there: with
 // fewer fields and entries and its items in another order, with another leaf, with new items, with a new entry, with another
 // atomic value, and with an item, between two that are the same, that has a field less or another leaf.
 const PARTS: [(&str, &str, &str); 8] = [
@@ -296,7 +324,7 @@ const ORDERS: [(&str, &str, &str); 15] = [
 pub enum AskedBeside {
     /// The paths that the other adds, modifies and removes.
     Compared,
-    /// The paths that the other, a part that is put over the body, adds and modifies, and whether it leaves the body as it is.
+    /// The paths that the other, a part that is put over the body, adds and modifies, and whether it repeats what is there.
     Part,
     /// Whether the two are one.
     Same,
@@ -328,7 +356,11 @@ pub fn beside(alloc: Global, asked: &AskedBeside, own: &str, other: &str) -> Res
 #[test]
 fn bodies_are_merged_and_compared(rt: HostRuntime) -> Result<(), Fail> {
     are_told_of_two(rt.alloc(), &QuestionOfTwo::Over(AskedOver::Shown), &OVER)?;
-    are_told_of_two(rt.alloc(), &QuestionOfTwo::Over(AskedOver::Left), &LEFT)?;
+    are_told_of_two(
+        rt.alloc(),
+        &QuestionOfTwo::Over(AskedOver::Repeats),
+        &REPEATS,
+    )?;
     are_told_of_two(
         rt.alloc(),
         &QuestionOfTwo::Bodies(AskedBeside::Compared),
