@@ -25,15 +25,15 @@ use Rattle.ssa_merge.specs.declared.change.Change.{Change}
 use Rattle.ssa_merge.specs.declared.plan.Refusal as plan
 use Rattle.ssa_merge.specs.declared.plan.Refusal.TheVariants as plans
 use Rattle.ssa_bench.specs.Benches.{IsAccepted, IsPrepared, changed_view, changed_by, led_to, tested_body}
-use Rattle.ssa_bench.specs.Faults.{IsFault, IsGiven}
+use Rattle.ssa_answers.specs.Faults.{IsFault, IsGiven}
 use Rattle.ssa_turn.specs.Histories.{label_view}
 use Rattle.ssa_turn.specs.TablesBack.{AllTablesBack, HasTableBack, MakesTableBack}
 use Rattle.ssa_turn_state.specs.States.{HasStateRoom, IsTaken, state_steps}
 use Rattle.std.specs.List.{All}
 use Rattle.std.proofs.lemmas.List.Elements.{All-head, All-tail, All-take}
-use Rattle.ssa_bench.specs.Refusals.{refusal_fault}
-use Rattle.ssa_bench.specs.declared.fault.Fault as engine
-use Rattle.ssa_bench.specs.declared.fault.Fault.TheVariants as faults
+use Rattle.ssa_answers.specs.Refusals.{refusal_fault}
+use Rattle.ssa_answers.specs.declared.fault.Fault as engine
+use Rattle.ssa_answers.specs.declared.fault.Fault.TheVariants as faults
 use Rattle.ssa_bench.specs.declared.prepared.Prepared.{Prepared}
 use Rattle.ssa_turn.specs.declared.label.Label.{Label}
 use Rattle.ssa_turn.specs.declared.label.Label.TheVariants.{Strip}

@@ -21,10 +21,10 @@ use Rattle.ssa_schema.specs.Refusals.{first_of}
 use Rattle.ssa_schema.specs.declared.body_fault.BodyFault.{BodyFault}
 use Rattle.ssa_json.specs.Readings.{readings}
 use Rattle.ssa_bench.specs.Benches.{table_or_fault}
-use Rattle.ssa_bench.specs.Faults.{IsFault, IsGiven}
+use Rattle.ssa_answers.specs.Faults.{IsFault, IsGiven}
 use Rattle.ssa_object.specs.Identities.{identity_in}
-use Rattle.ssa_bench.specs.declared.fault.Fault.{Fault}
-use Rattle.ssa_bench.specs.declared.fault.Fault.TheVariants.{Body, TooManyPaths, Identity, ManagedFieldsGiven, Entry, ManagerName, HistoryFull, NothingToUndo, NothingToRedo, Conflict, TooManyManagers, OutOfMemory}
+use Rattle.ssa_answers.specs.declared.fault.Fault.{Fault}
+use Rattle.ssa_answers.specs.declared.fault.Fault.TheVariants.{Body, TooManyPaths, Identity, ManagedFieldsGiven, Entry, ManagerName, HistoryFull, NothingToUndo, NothingToRedo, Conflict, TooManyManagers, OutOfMemory}
 
 -- ---- faults that are told
 

@@ -20,12 +20,12 @@ use Rattle.ssa_merge.specs.States.{state_view, updater}
 use Rattle.ssa_merge.specs.TableChanges.{changed_table}
 use Rattle.ssa_merge.specs.declared.change.Change.{Change}
 use Rattle.ssa_merge.specs.declared.state.State.{State}
-use Rattle.ssa_bench.specs.Faults.{IsFault, IsGiven}
+use Rattle.ssa_answers.specs.Faults.{IsFault, IsGiven}
 use Rattle.ssa_turn.specs.Histories.{label_view}
 use Rattle.ssa_turn.specs.TablesBack.{HasTableBack}
 use Rattle.ssa_turn_state.specs.States.{HasStateRoom, IsTaken, state_steps}
-use Rattle.ssa_bench.specs.declared.fault.Fault.{Fault}
-use Rattle.ssa_bench.specs.declared.fault.Fault.TheVariants.{OutOfMemory}
+use Rattle.ssa_answers.specs.declared.fault.Fault.{Fault}
+use Rattle.ssa_answers.specs.declared.fault.Fault.TheVariants.{OutOfMemory}
 use Rattle.ssa_bench.specs.declared.prepared.Changed.{Changed}
 use Rattle.ssa_bench.specs.declared.prepared.Counts.{Counts}
 use Rattle.ssa_bench.specs.declared.prepared.Prepared.{Prepared}

@@ -21,8 +21,8 @@ use Rattle.ssa_turn.specs.Histories.{label_view}
 use Rattle.ssa_turn.specs.declared.label.Label as labels
 use Rattle.ssa_turn.specs.TablesBack.{HasTableBack}
 use Rattle.ssa_turn_state.specs.States.{HasStateRoom, state_steps}
-use Rattle.ssa_bench.specs.declared.fault.Fault.{Fault}
-use Rattle.ssa_bench.specs.declared.fault.Fault.TheVariants.{OutOfMemory}
+use Rattle.ssa_answers.specs.declared.fault.Fault.{Fault}
+use Rattle.ssa_answers.specs.declared.fault.Fault.TheVariants.{OutOfMemory}
 use Rattle.ssa_bench.specs.declared.taking.Step.{Step}
 
 -- ---- refusals

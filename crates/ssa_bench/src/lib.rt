@@ -23,14 +23,12 @@
 #![tactic(auto)]
 
 pub mod bench;
-pub mod command;
-pub mod fault;
 mod load;
 pub mod prepared;
 mod record_reading;
 mod taking;
 
 pub use bench::{Bench, MOST_PAST};
-pub use command::Command;
-pub use fault::Fault;
 pub use prepared::{Changed, Counts, Prepared};
+pub use ssa_answers::change::Command;
+pub use ssa_answers::fault::Fault;

@@ -7,7 +7,7 @@ ghost use Rattle.ssa_json.specs.View.{view};
 ghost use Rattle.ssa_turn.specs.Histories.{label_view};
 ghost use Rattle.ssa_bench.specs.Taking.{IsTaken, answered_step, held_counts, load_fault, of_schema_fault, written_label};
 
-use crate::fault::Fault;
+use ssa_answers::fault::Fault;
 use ssa_file::head::{RecordCounts, record_counts};
 use ssa_json::value::Json;
 use ssa_lines::loading::{FileLine, LoadFault};

@@ -1,78 +1,10 @@
--- Subcommands as the code has them: which commands they are, why others are none, and how they are answered.
-use Rattle.std.specs.Prelude.{◌≡◌, Bool, true, false, ◌&&◌, Result, Ok, Err}
-use Rattle.ssa_model.specs.definitions.Json.{Text, Items, list}
-use Rattle.ssa_model.specs.definitions.Json as json
-use Rattle.ssa_model.specs.definitions.Readings.{not_json, null_value, number_outside}
+-- How a subcommand is answered: whether it is accepted, and whether the bench's file has to be written for it.
+use Rattle.std.specs.Prelude.{Bool, false, ◌&&◌, Ok, Err}
 use Rattle.ssa_model.specs.definitions.History as model
-use Rattle.ssa_model.specs.definitions.Answers as answers
 use Rattle.ssa_model.specs.definitions.Answers.{answer}
-use Rattle.ssa_model.specs.definitions.ElementTexts.{bad_element, index_element, not_canonical}
-use Rattle.ssa_model.specs.definitions.Session.{unread, bad_moment, command_shape, of_element}
-use Rattle.ssa_model.specs.definitions.Faults as code
-use Rattle.ssa_model.specs.definitions.Faults.{Code}
 use Rattle.ssa_model.specs.definitions.Subcommands as subcommands
-use Rattle.ssa_model.specs.definitions.Subcommands.{asked_command, is_accepted, is_change, of_line, owners_of_value, tested_command, too_long}
-use Rattle.ssa_json.specs.Moment.{is_moment}
+use Rattle.ssa_model.specs.definitions.Subcommands.{asked_command, is_accepted, is_change}
 use Rattle.ssa_json.specs.Readings.{readings}
-use Rattle.ssa_json.specs.View.{view}
-use Rattle.ssa_json.specs.declared.value.Json.{Json}
-use Rattle.ssa_session.specs.Commands.{command_view}
-use Rattle.ssa_session.specs.Replies.{line_code}
-use Rattle.ssa_session.specs.declared.command.Command.{Command}
-use Rattle.ssa_session.specs.declared.read_command.LineFault.TheVariants.{NotJson, NullValue, NumberOutside, BadMoment, CommandShape, BadElement, IndexElement, NotCanonical, OutOfMemory}
-use Rattle.ssa_program.specs.declared.asked.Asked.{Asked}
-use Rattle.ssa_program.specs.declared.asked.Asked.TheVariants.{Apply, Update, Strip, Undo, Redo, Show, Owners, Log}
-use Rattle.ssa_program.specs.declared.asked.AskedFault.{AskedFault}
-use Rattle.ssa_program.specs.declared.asked.AskedFault.TheVariants.{TooLong, Line}
-
-abbrev pub asked_view : Asked → subcommands.Asked
-asked_view (Apply manager force at object) = subcommands.apply manager.now force at.now object.now
-asked_view (Update manager at object) = subcommands.update manager.now at.now object.now
-asked_view Strip = subcommands.strip
-asked_view Undo = subcommands.undo
-asked_view Redo = subcommands.redo
-asked_view (Show managed) = subcommands.show managed
-asked_view (Owners path) = subcommands.owners path.now
-asked_view Log = subcommands.log
-
--- The fault is the given one; of want of memory nothing is said.
-abbrev pub IsRefusal : {A : Type 0} → AskedFault → Result A subcommands.AskedFault → Type 0
-IsRefusal TooLong r = r ≡ Err too_long
-IsRefusal (Line NotJson) r = r ≡ Err (of_line (unread not_json))
-IsRefusal (Line NullValue) r = r ≡ Err (of_line (unread null_value))
-IsRefusal (Line NumberOutside) r = r ≡ Err (of_line (unread number_outside))
-IsRefusal (Line BadMoment) r = r ≡ Err (of_line bad_moment)
-IsRefusal (Line CommandShape) r = r ≡ Err (of_line command_shape)
-IsRefusal (Line BadElement) r = r ≡ Err (of_line (of_element bad_element))
-IsRefusal (Line IndexElement) r = r ≡ Err (of_line (of_element index_element))
-IsRefusal (Line NotCanonical) r = r ≡ Err (of_line (of_element not_canonical))
-IsRefusal (Line OutOfMemory) r = Unit {0}
-
--- the command is the one that is asked for, or the fault is the first one
-abbrev pub IsAskedCommand : Result Command AskedFault → Result answers.Command subcommands.AskedFault → Type 0
-IsAskedCommand (Ok c) r = r ≡ Ok (command_view c)
-IsAskedCommand (Err f) r = IsRefusal {A = answers.Command} f r
-
--- the same of the value that bytes are
-abbrev pub IsValueOf : Result Json AskedFault → Result json.Json subcommands.AskedFault → Type 0
-IsValueOf (Ok v) r = r ≡ Ok (view v)
-IsValueOf (Err f) r = IsRefusal {A = json.Json} f r
-
--- the text is this moment, or it is none
-abbrev pub IsMoment : Result Text AskedFault → Text → Type 0
-IsMoment (Ok m) t = (is_moment t ≡ true) × (m ≡ t)
-IsMoment (Err f) t = (is_moment t ≡ false) × (f ≡ Line BadMoment)
-
--- the command that asks for the owners of a path of these items, or their first fault
-abbrev pub owners_of_items : Items → Result answers.Command subcommands.AskedFault
-owners_of_items vs = elim (owners_of_value (list vs)) [ Ok c ↦ tested_command readings c | Err f ↦ Err f ]
-
--- how the fault is told
-abbrev pub asked_code : AskedFault → Code
-asked_code TooLong = code.too_long
-asked_code (Line f) = line_code f
-
--- ---- how a subcommand is answered
 
 -- the subcommand is a command that the bench accepts
 abbrev pub is_asked_accepted : model.Bench → subcommands.Asked → Bool

@@ -2,13 +2,14 @@
 ghost use Rattle.std.specs.Prelude.{◌≡◌, IfOk, OnErr, false};
 ghost use Rattle.ssa_model.specs.definitions.Subcommands.{asked_answer};
 ghost use Rattle.ssa_json.specs.Readings.{readings};
-ghost use Rattle.ssa_program.specs.Asked.{asked_view, is_asked_accepted, is_asked_change};
+ghost use Rattle.ssa_answers.specs.Asked.{asked_view};
+ghost use Rattle.ssa_program.specs.Asked.{is_asked_accepted, is_asked_change};
 
-use crate::asked::{Asked, AskedFault, command_of};
+use ssa_answers::asked::{Asked, AskedFault, command_of};
+use ssa_answers::read_command::LineFault;
 use ssa_bench::bench::Bench;
 use ssa_lines::fault_line::code_text;
 use ssa_session::bench_machine::answer_command;
-use ssa_session::read_command::LineFault;
 use std::alloc::{AllocError, Global};
 
 /// The reply to a subcommand, and what it means.

@@ -4,10 +4,10 @@ ghost use Rattle.ssa_program.specs.Trouble.{IsLoadTrouble, IsReadTrouble};
 
 use crate::notes::Notes;
 use crate::trouble::Trouble;
+use ssa_answers::asked::MOST_INPUT_BYTES;
 use ssa_bench::bench::Bench;
 use ssa_json::reader::OfReader;
 use ssa_lines::saving::MOST_FILE_BYTES;
-use ssa_session::files::MOST_INPUT_BYTES;
 use std::fs::File;
 use std::io::{BufReader, ErrorKind, Read};
 use std::rt::Files;

@@ -2,22 +2,15 @@
 //! statuses.
 //!
 //! [`perform`](perform::perform) carries out a call on files; [`answer`](answer::answer) tells what a
-//! bench answers to what is [`Asked`].
+//! bench answers to a subcommand.
 //!
 //! ```
-//! let asked = Asked::Owners {
-//!     path: r#"["f:spec"]"#,
-//! };
-//! assert!(rt; command_of(rt.alloc(), asked).is_ok());
-//! let asked = Asked::Owners {
-//!     path: r#"["spec"]"#,
-//! };
-//! assert!(rt; command_of(rt.alloc(), asked).is_err());
+//! assert_eq!(rt; Status::Done.code(), 0);
+//! assert_eq!(rt; Status::from(Ending::Refused).code(), 1);
 //! ```
 #![tactic(auto)]
 
 pub mod answer;
-pub mod asked;
 pub mod draft;
 pub mod files;
 mod names;
@@ -28,5 +21,4 @@ mod trouble;
 pub mod usage;
 
 pub use answer::Reply;
-pub use asked::{Asked, AskedFault, command_of};
 pub use status::Status;

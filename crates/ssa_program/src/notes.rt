@@ -1,9 +1,11 @@
 //! Where a refusal is: lines for people, beside its fault line.
 
-use crate::asked::{Asked, AskedFault, command_of};
 use crate::names::named_line;
+use ssa_answers::asked::{Asked, AskedFault, MOST_INPUT_BYTES, command_of};
+use ssa_answers::command::Command;
+use ssa_answers::fault::Fault;
+use ssa_answers::read_command::LineFault;
 use ssa_bench::bench::Bench;
-use ssa_bench::fault::Fault;
 use ssa_explain::conflict::push_conflict;
 use ssa_explain::entry::push_refused_entry;
 use ssa_explain::identity::{push_missing_part, push_other_part};
@@ -16,9 +18,7 @@ use ssa_json::value::Json;
 use ssa_lines::loading::LoadFault;
 use ssa_lines::saving::write_text;
 use ssa_schema::schema::Schema;
-use ssa_session::command::Command;
-use ssa_session::files::{FileFault, MOST_INPUT_BYTES, schema_of};
-use ssa_session::read_command::LineFault;
+use ssa_session::files::{FileFault, schema_of};
 use std::alloc::{AllocError, Global};
 
 /// Lines about a refusal. Where memory runs out, they are fewer.

@@ -1,6 +1,7 @@
 //! The examples on the first pages of the crates below, as `tools/fronts` finds them there.
 use ssa_explain::push_members;
-use ssa_program::{Asked, command_of};
+use ssa_program::Status;
+use ssa_session::Ending;
 use ssa_words::{Call, read_words};
 use std::test::Fail;
 
@@ -22,13 +23,7 @@ fn ssa_explain_example(rt: HostRuntime) -> Result<(), Fail> {
 
 #[test]
 fn ssa_program_example(rt: HostRuntime) -> Result<(), Fail> {
-    let asked = Asked::Owners {
-        path: r#"["f:spec"]"#,
-    };
-    assert!(rt; command_of(rt.alloc(), asked).is_ok());
-    let asked = Asked::Owners {
-        path: r#"["spec"]"#,
-    };
-    assert!(rt; command_of(rt.alloc(), asked).is_err());
+    assert_eq!(rt; Status::Done.code(), 0);
+    assert_eq!(rt; Status::from(Ending::Refused).code(), 1);
     Ok(())
 }

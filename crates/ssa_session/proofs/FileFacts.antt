@@ -16,9 +16,9 @@ use Rattle.ssa_json.specs.Readings.{readings}
 use Rattle.ssa_schema.specs.Schemas.{Faults}
 use Rattle.ssa_schema.specs.declared.fault.SchemaFault.{SchemaFault}
 use Rattle.ssa_schema.specs.declared.fault.SchemaFault.TheVariants as schema
-use Rattle.ssa_bench.specs.Faults.{IsGiven}
-use Rattle.ssa_bench.specs.declared.fault.Fault as engine
-use Rattle.ssa_bench.specs.declared.fault.Fault.TheVariants as bench
+use Rattle.ssa_answers.specs.Faults.{IsGiven}
+use Rattle.ssa_answers.specs.declared.fault.Fault as engine
+use Rattle.ssa_answers.specs.declared.fault.Fault.TheVariants as bench
 use Rattle.ssa_session.specs.Files.{IsGivenFile, object_fault, schema_fault}
 
 -- ---- a schema file

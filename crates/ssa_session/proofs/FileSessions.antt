@@ -11,7 +11,7 @@ use Rattle.ssa_json.specs.Readings.{readings}
 use Rattle.ssa_json.specs.declared.fault.JsonFault.TheVariants as json
 use Rattle.ssa_json.specs.declared.source.DeviceFault.{DeviceFault}
 use Rattle.ssa_schema.specs.declared.fault.SchemaFault.TheVariants as schema
-use Rattle.ssa_bench.specs.declared.fault.Fault.TheVariants as bench
+use Rattle.ssa_answers.specs.declared.fault.Fault.TheVariants as bench
 use Rattle.ssa_session.specs.Effects.{RunsWhole, RunsPartly}
 use Rattle.ssa_session.specs.Files.{IsFileFault, IsGivenFile, IsTold}
 use Rattle.ssa_session.specs.FileSessions.{IsHeld, IsRefusal, IsSessionOn, IsTelling}

@@ -13,9 +13,9 @@ use Rattle.ssa_json.specs.declared.fault.JsonFault.{JsonFault}
 use Rattle.ssa_json.specs.declared.fault.JsonFault.TheVariants as json
 use Rattle.ssa_schema.specs.declared.fault.SchemaFault.{SchemaFault}
 use Rattle.ssa_schema.specs.declared.fault.SchemaFault.TheVariants as schema
-use Rattle.ssa_bench.specs.Faults.{IsFault}
-use Rattle.ssa_bench.specs.declared.fault.Fault as engine
-use Rattle.ssa_bench.specs.declared.fault.Fault.TheVariants as bench
+use Rattle.ssa_answers.specs.Faults.{IsFault}
+use Rattle.ssa_answers.specs.declared.fault.Fault as engine
+use Rattle.ssa_answers.specs.declared.fault.Fault.TheVariants as bench
 use Rattle.ssa_session.specs.declared.files.FileFault.{FileFault}
 use Rattle.ssa_session.specs.declared.files.FileFault.TheVariants.{Json, Schema, Object, OutOfMemory}
 

@@ -5,19 +5,19 @@ ghost use Rattle.ssa_model.specs.definitions.Answers.{answer};
 ghost use Rattle.ssa_model.specs.definitions.Json.{compact};
 ghost use Rattle.ssa_model.specs.definitions.Replies.{fault_reply, reply_text};
 ghost use Rattle.ssa_model.specs.definitions.Subcommands.{is_accepted};
-ghost use Rattle.ssa_bench.specs.Commands as changes;
-ghost use Rattle.ssa_bench.specs.Faults.{IsFault};
-ghost use Rattle.ssa_session.specs.Commands.{command_view};
+ghost use Rattle.ssa_answers.specs.Changes as changes;
+ghost use Rattle.ssa_answers.specs.Faults.{IsFault};
+ghost use Rattle.ssa_answers.specs.Commands.{command_view};
 
-use crate::command::Command;
-use crate::fault_text::fault_text;
 use crate::log_text::log_text;
 use crate::machine::Machine;
-use crate::read_command::{LineFault, read_command};
 use crate::reply_text::{changed_text, moved_text, owners_text, shown_text};
+use ssa_answers::change;
+use ssa_answers::command::Command;
+use ssa_answers::fault::Fault;
+use ssa_answers::fault_text::fault_text;
+use ssa_answers::read_command::{LineFault, read_command};
 use ssa_bench::bench::Bench;
-use ssa_bench::command as bench;
-use ssa_bench::fault::Fault;
 use ssa_json::reading_room::ReadingRoom;
 use ssa_lines::fault_line::code_text;
 use ssa_path::path::Path;
@@ -56,13 +56,13 @@ fn refused(alloc: Global, fault: &Fault) -> Result<Answered, AllocError>
 }
 
 // The word under which the reply tells of a change.
-fn change_word(change: &bench::Command) -> &'static str
+fn change_word(change: &change::Command) -> &'static str
     ensures { result.now ≡ changes.command_word change.now }
 {
     match change {
-        bench::Command::Apply { .. } => "apply",
-        bench::Command::Update { .. } => "update",
-        bench::Command::Strip => "strip",
+        change::Command::Apply { .. } => "apply",
+        change::Command::Update { .. } => "update",
+        change::Command::Strip => "strip",
     }
 }
 
@@ -70,7 +70,7 @@ fn change_word(change: &bench::Command) -> &'static str
 fn answer_change(
     bench: &mut Bench,
     alloc: Global,
-    change: bench::Command,
+    change: change::Command,
 ) -> Result<Answered, AllocError>
     ensures reply { IfOk result (λ a. a.text.items ≡ reply_text (answer bench.old (changes.command_view change)).0) }
     ensures accepted { IfOk result (λ a. a.is_accepted ≡ is_accepted (answer bench.old (changes.command_view change)).0) }

@@ -10,9 +10,10 @@ ghost use Rattle.ssa_session.specs.FileSessions.{IsHeld, IsTelling};
 
 use crate::bench_session::session;
 use crate::engine::SessionFault;
-use crate::fault_text::fault_text;
+use ssa_answers::asked::MOST_INPUT_BYTES;
+use ssa_answers::fault::Fault;
+use ssa_answers::fault_text::fault_text;
 use ssa_bench::bench::Bench;
-use ssa_bench::fault::Fault;
 use ssa_json::fault::JsonFault;
 use ssa_json::fault_code::FaultCode;
 use ssa_json::sink::Sink;
@@ -24,9 +25,6 @@ use ssa_schema::fault::SchemaFault;
 use ssa_schema::schema::Schema;
 use std::alloc::{AllocError, Global};
 use thiserror::Error;
-
-/// The most bytes of a schema file, and of an object file.
-pub const MOST_INPUT_BYTES: usize = 1_048_576;
 
 /// Why a schema file or an object file makes no bench.
 #[derive(Debug, Drop, Error)]

@@ -20,21 +20,14 @@
 
 pub mod bench_machine;
 pub mod bench_session;
-pub mod command;
-mod command_shape;
 pub mod engine;
-mod entry_fault_text;
-pub mod fault_text;
 pub mod files;
 mod log_text;
 pub mod machine;
-pub mod read_command;
 pub mod reply_text;
 
 pub use bench_machine::answer_command;
 pub use bench_session::session;
-pub use command::Command;
 pub use engine::{LINE_LIMIT, SessionFault};
 pub use files::{Ending, FileFault, bench_of, schema_of, session_on, tell};
 pub use machine::Machine;
-pub use read_command::LineFault;

@@ -1,9 +1,9 @@
 //! Benches by their calls: commands that wait, counts, and moves.
 
 use crate::commands::apply;
+use ssa_answers::change::Command;
+use ssa_answers::fault::Fault;
 use ssa_bench::bench::Bench;
-use ssa_bench::command::Command;
-use ssa_bench::fault::Fault;
 use ssa_bench::prepared::Counts;
 use ssa_samples::sample::bench;
 use std::alloc::Global;

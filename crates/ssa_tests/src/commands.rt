@@ -1,6 +1,6 @@
 //! Commands on the sample's object.
 
-use ssa_bench::command::Command;
+use ssa_answers::change::Command;
 use ssa_json::moment::Moment;
 use ssa_samples::sample::{json, web};
 use std::alloc::Global;

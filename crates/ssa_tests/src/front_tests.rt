@@ -1,5 +1,6 @@
 //! The examples on the first pages of the crates below, as `tools/fronts` finds them there.
 use crate::bodies::{bodies, body, state};
+use ssa_answers::{Asked, command_of};
 use ssa_bench::{Bench, Command};
 use ssa_file::{RecordCounts, record_counts};
 use ssa_json::OfReader;
@@ -121,6 +122,19 @@ fn ssa_file_example(rt: HostRuntime) -> Result<(), Fail> {
     let head = json(rt.alloc(), r#"{"format":2,"future":0,"past":1}"#)?;
     let counts = record_counts(rt.alloc(), &head)?;
     assert_eq!(rt; counts, Some(RecordCounts { past: 1, future: 0 }));
+    Ok(())
+}
+
+#[test]
+fn ssa_answers_example(rt: HostRuntime) -> Result<(), Fail> {
+    let asked = Asked::Owners {
+        path: r#"["f:spec"]"#,
+    };
+    assert!(rt; command_of(rt.alloc(), asked).is_ok());
+    let asked = Asked::Owners {
+        path: r#"["spec"]"#,
+    };
+    assert!(rt; command_of(rt.alloc(), asked).is_err());
     Ok(())
 }
 

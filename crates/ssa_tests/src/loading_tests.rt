@@ -1,8 +1,8 @@
 //! Bench files that are taken again, and those that are none.
 
 use crate::commands::apply;
+use ssa_answers::change::Command;
 use ssa_bench::bench::Bench;
-use ssa_bench::command::Command;
 use ssa_lines::loading::LoadFault;
 use ssa_samples::bench_files::{bench_file, loaded, saved};
 use ssa_samples::breaks::Breaks;

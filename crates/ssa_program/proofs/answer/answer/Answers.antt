@@ -1,6 +1,6 @@
 use Rattle.std.proofs.Common.{◌&&◌, ◌∙◌, sym}
 use Rattle.ssa_model.specs.definitions.Subcommands.{is_change}
-use Rattle.ssa_session.specs.Commands.{command_view}
+use Rattle.ssa_answers.specs.Commands.{command_view}
 use Rattle.ssa_program.proofs.Unchanged.{unchanged}
 use Rattle.ssa_program.proofs.answer.answer.Goals as goal
 use Rattle.ssa_program.proofs.answer.answer.Goals.{then-answered, else-answered}

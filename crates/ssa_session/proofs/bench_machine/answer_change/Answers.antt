@@ -2,7 +2,7 @@ use Rattle.std.proofs.Common.{ap, ◌∙◌, sym}
 use Rattle.ssa_model.specs.definitions.Answers as model
 use Rattle.ssa_model.specs.definitions.Replies.{reply_text}
 use Rattle.ssa_bench.specs.Benches.{changed_view}
-use Rattle.ssa_bench.specs.Commands.{command_view, command_word}
+use Rattle.ssa_answers.specs.Changes.{command_view, command_word}
 use Rattle.ssa_session.proofs.bench_machine.answer_change.Goals as goal
 
 pub returns-in_ok-commit-in-Ok-clause-reply : goal.returns-in_ok-commit-in-Ok-clause-reply

@@ -1,6 +1,6 @@
 use Rattle.std.proofs.Common.{◌∙◌, sym}
 use Rattle.ssa_model.specs.definitions.Answers.{nothing_to_redo}
-use Rattle.ssa_session.proofs.FaultFacts.{move-refused, redo-refused}
+use Rattle.ssa_session.proofs.RefusedMoves.{move-refused, redo-refused}
 use Rattle.ssa_session.proofs.bench_machine.answer_redo.Goals as goal
 
 pub returns-then-future-eq0-clause-reply : goal.returns-then-future-eq0-clause-reply

@@ -1,6 +1,6 @@
 use Rattle.std.proofs.Common.{◌∙◌, sym}
 use Rattle.ssa_model.specs.definitions.Answers.{nothing_to_undo}
-use Rattle.ssa_session.proofs.FaultFacts.{move-refused, undo-refused}
+use Rattle.ssa_session.proofs.RefusedMoves.{move-refused, undo-refused}
 use Rattle.ssa_session.proofs.bench_machine.answer_undo.Goals as goal
 
 pub returns-then-past-eq0-clause-reply : goal.returns-then-past-eq0-clause-reply

@@ -6,7 +6,7 @@ use Rattle.ssa_model.specs.definitions.Objects.{identity_of, same_identity}
 use Rattle.ssa_model.specs.definitions.Answers as model
 use Rattle.ssa_model.specs.definitions.Answers.{body_or_fault, body_fault, identity_fault}
 use Rattle.ssa_json.specs.View.{view}
-use Rattle.ssa_bench.specs.Faults.{IsGiven}
+use Rattle.ssa_answers.specs.Faults.{IsGiven}
 use Rattle.ssa_bench.proofs.Taken.{command_body-no_object, command_body-other, command_body-taken, regrouped}
 use Rattle.ssa_bench.proofs.bench.Bench.command_body.Goals as goal
 

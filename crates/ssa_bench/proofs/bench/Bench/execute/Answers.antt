@@ -1,4 +1,4 @@
-use Rattle.ssa_bench.specs.Commands.{command_view, command_word}
+use Rattle.ssa_answers.specs.Changes.{command_view, command_word}
 use Rattle.ssa_bench.proofs.bench.Bench.execute.Goals as goal
 
 -- what was prepared is the answer to the command

@@ -9,7 +9,7 @@ use Rattle.ssa_model.specs.definitions.RecordReading.{HasReadPaths}
 use Rattle.ssa_json.specs.Readings.{readings}
 use Rattle.ssa_merge.specs.States.{state_view, updater}
 use Rattle.ssa_bench.specs.Benches.{IsPrepared, update_answer}
-use Rattle.ssa_bench.specs.declared.fault.Fault.{Fault}
+use Rattle.ssa_answers.specs.declared.fault.Fault.{Fault}
 use Rattle.ssa_turn.specs.TablesBack.{HasTableBack}
 use Rattle.ssa_turn.specs.declared.label.Label.TheVariants.{Update}
 use Rattle.ssa_bench.proofs.Planned.{IsKept, IsRecorded, accepted, compares-itself, leads-itself, planned-at, present-back, present-paths, refused-planned}
