@@ -16,6 +16,7 @@ class Along:
         self.way = way  # as people read it
         self.schema_way = schema_way  # the same with `[]` for any item and `.*` for any entry
         self.is_whole = is_whole  # an item that a server takes as one
+        self._items = None  # of a list whose items were asked for: each by the compact text of its keys, or of itself
 
     @property
     def is_nobodys(self):
@@ -56,13 +57,23 @@ class Along:
         if not isinstance(self.value, list):
             return None
         if letter == "v":
-            there = any(compact(item) == compact(said) for item in self.value)
+            there = compact(said) in self._known_items()
             return self._below(said, value_text(self.place, said), "v:" + compact(said)) if there else None
         keys = {name: said.get(name, self.place.fill.get(name)) for name in self.place.keys}
         if any(value is None for value in keys.values()) or set(said) - set(keys):
             return None
-        item = item_at(self.place, self.value, keys)
+        item = self._known_items().get(compact(keys))
         return None if item is None else self._below(item, key_text(self.place, keys), "k:" + compact(keys))
+
+    def _known_items(self):
+        """The items of a list by what they are known by; of equal ones the first."""
+        if self._items is None:
+            self._items = {}
+            for item in self.value:
+                known = item if self.place.kind == "set" else named_keys(self.place, item) if isinstance(item, dict) else None
+                if known is not None:
+                    self._items.setdefault(compact(known), item)
+        return self._items
 
     def _below(self, item, bench_text, text):
         whole = self.place.whole_items
@@ -104,32 +115,31 @@ class Along:
         return [self.path, *(self._field(name).path for name in there)]
 
 
-def item_at(place, items, keys):
-    """The item of a map list that has these keys; None where there is none."""
-    wanted = compact(keys)
-    for item in items:
-        named = named_keys(place, item) if isinstance(item, dict) else None
-        if named is not None and compact(named) == wanted:
-            return item
-    return None
+class Finder:
+    """Finds places of an object by their paths as servers write them, each step of a path taken once."""
 
+    def __init__(self, root, value):
+        self.whole = value
+        self._found = {(): Along(root, value)}
 
-def _at(root, value, texts):
-    here = Along(root, value)
-    for text in texts:
-        here = here.step(text)
-        if here is None:
-            return None
-    return here
+    def at(self, texts):
+        """The place at a path; None where nothing stands there."""
+        if texts not in self._found:
+            above = self.at(texts[:-1])
+            self._found[texts] = above and above.step(texts[-1])
+        return self._found[texts]
+
+    def value(self, texts):
+        here = self.at(texts)
+        return here and here.value
 
 
 def value_at(root, value, texts):
     """What stands in an object at a path as servers write it; None where nothing does."""
-    here = _at(root, value, texts)
-    return here and here.value
+    return Finder(root, value).value(tuple(texts))
 
 
 def place_at(root, value, texts):
     """The place of a path that stands in an object; None where nothing does."""
-    here = _at(root, value, texts)
+    here = Finder(root, value).at(tuple(texts))
     return here and here.place

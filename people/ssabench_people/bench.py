@@ -46,7 +46,10 @@ class Bench:
 
     def live(self):
         """The object, with its managers' entries, as a server shows them."""
-        value = engine.asked("show", self.name, "--show-managed-fields")["object"]
+        return self.shown(engine.asked("show", self.name, "--show-managed-fields")["object"])
+
+    def shown(self, value):
+        """An object of the bench, with its managers' entries, as a server shows them."""
         shown, entries = from_bench_object(self.root, value, self.kept)
         if entries:
             shown["metadata"]["managedFields"] = [shown_entry(self.root, entry) for entry in entries]
@@ -62,6 +65,17 @@ class Bench:
                 shutil.copyfile(self.name, twin.name)
             except OSError as fault:
                 raise Refusal(f"cannot read {self.name}", 3) from fault
+            yield twin
+
+    @contextlib.contextmanager
+    def made_of(self, value):
+        """A bench apart, of the same schema, with an object of the bench and no history."""
+        with tempfile.TemporaryDirectory(prefix="ssabench-") as folder:
+            twin = copy.copy(self)
+            twin.name = os.path.join(folder, "bench")
+            status, reply, lines = make(twin.name, self.root, value, self.kept, self.written_apart)
+            if status != 0:
+                raise Refusal("; ".join(lines) or reply["name"], status)
             yield twin
 
 

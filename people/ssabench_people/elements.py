@@ -71,7 +71,7 @@ def real_path(root, path):
             parts.append(tuple(part))
             if whole:
                 break
-    structural = not path or path[-1] == "f:" + OTHERS and among_others or path == ["f:" + METADATA]
+    structural = not path or path[-1] == "f:" + OTHERS and among_others or path in (["f:metadata"], ["f:" + METADATA])
     return None if structural else parts
 
 
@@ -87,6 +87,11 @@ def _real_element(place, text, is_entry):
         return place and place.item, "k:" + compact(keys), f"[{way}]"
     value = unboxed(place.item, said) if place else said
     return place and place.item, "v:" + compact(value), f"[={compact(value)}]"
+
+
+def way_of(texts):
+    """The way that people read, of a path as servers write it."""
+    return "".join(_real_element(None, text, False)[2] for text in texts)
 
 
 def way_of_name(name):

@@ -4,24 +4,30 @@ import os
 import sys
 
 from .commands import do_command, do_diff, do_plain
-from .looks import do_log, do_owners, do_show
+from .explain import do_explain
+from .logs import do_log
+from .looks import do_owners, do_show
 from .opening import do_open
+from .view import do_view
 from .refusal import Refusal
 from .report import line
 
 STATUSES = "statuses: 0 done; 1 refused, or something would be lost; 2 other words; 3 a file, or the proved program"
 FILE = "the manifest, in YAML or JSON; - is standard input"
+FORMS = ("json", "yaml")
 EXAMPLES = {
     "open": "open --schema apps.json -f live.yaml web.bench",
     "apply": "apply -f manifest.yaml --field-manager autoscaler --dry-run web.bench",
     "update": "update -f edited.yaml --field-manager kubectl-edit web.bench",
     "diff": "diff -f manifest.yaml --field-manager team web.bench",
+    "explain": "explain -f manifest.yaml --field-manager team web.bench",
     "strip": "strip web.bench",
     "undo": "undo web.bench",
     "redo": "redo web.bench",
     "show": "show --show-managed-fields -o yaml web.bench",
     "owners": "owners web.bench .spec.template.spec.containers[name=nginx].image",
-    "log": "log web.bench",
+    "view": "view -f manifest.yaml --field-manager team web.bench > web.html",
+    "log": "log --path .spec.replicas web.bench",
 }
 
 
@@ -29,12 +35,12 @@ class Words:
     """The words, added one after the other."""
 
     def __init__(self):
-        self.top = argparse.ArgumentParser(prog="kubectl-ssabench", description="A workbench for Server-Side Apply.", epilog=STATUSES)
+        self.top = argparse.ArgumentParser(prog="kubectl-ssabench", description="A workbench for Server-Side Apply.", epilog=STATUSES, allow_abbrev=False)
         self.words = self.top.add_subparsers(dest="word", required=True, metavar="WORD")
 
     def add(self, name, told, do, forms=(), aliases=(), statuses=STATUSES):
         example = f"example: kubectl-ssabench {EXAMPLES[name]}"
-        word = self.words.add_parser(name, help=told, description=told, epilog=f"{example} | {statuses}", aliases=aliases)
+        word = self.words.add_parser(name, help=told, description=told, epilog=f"{example} | {statuses}", aliases=aliases, allow_abbrev=False)
         word.set_defaults(do=do, does=name, output=None, dry_run=None)
         word.add_argument("bench", metavar="BENCH", help="the bench's file")
         if forms:
@@ -57,30 +63,45 @@ def dry_run(word):
 def parser():
     words = Words()
     _add_open(words)
-    apply = words.add_of_file("apply", "A manager applies a manifest.", do_command, "kubectl", ("json", "name"))
+    apply = words.add_of_file("apply", "A manager applies a manifest.", do_command, "kubectl", (*FORMS, "name"))
     diff = words.add_of_file(
         "diff", "What an apply would change.", do_diff, "kubectl", statuses="statuses: 0 nothing; 1 something; 2 and 3 refused"
     )
     diff.add_argument("--show-managed-fields", action="store_true", help="with the managers' entries")
-    for word in (apply, diff):
+    explain = words.add_of_file(
+        "explain", "What an apply would do, field by field, and what a server would do otherwise.", do_explain, "kubectl", FORMS
+    )
+    explain.add_argument("--migrate", action="store_true", help="as after kubectl's migration from client-side apply")
+    for word in (apply, diff, explain):
         word.set_defaults(does="apply")
         word.add_argument("--force-conflicts", action="store_true", help="take the fields that others own")
         word.add_argument("--server-side", action="store_true", help="as kubectl's; nothing else is done here")
     dry_run(apply)
     update = words.add_of_file(
-        "update", "A manager replaces the object.", do_command, "kubectl-replace", ("json", "name"), aliases=("replace",)
+        "update", "A manager replaces the object.", do_command, "kubectl-replace", (*FORMS, "name"), aliases=("replace",)
     )
     dry_run(update)
-    dry_run(words.add("strip", "Forget all managers.", do_plain, ("json",)))
-    words.add("undo", "Go back over a command.", do_plain, ("json",))
-    words.add("redo", "Go on over an undone command.", do_plain, ("json",))
-    show = words.add("show", "The object.", do_show, ("yaml", "json", "name"))
+    dry_run(words.add("strip", "Forget all managers.", do_plain, FORMS))
+    words.add("undo", "Go back over a command.", do_plain, FORMS)
+    words.add("redo", "Go on over an undone command.", do_plain, FORMS)
+    show = words.add("show", "The object.", do_show, (*FORMS, "name"))
     show.add_argument("--show-managed-fields", action="store_true", help="with its managers' entries")
-    owners = words.add("owners", "Who owns a field, or each.", do_owners, ("json",))
+    owners = words.add("owners", "Who owns a field, or each.", do_owners, FORMS)
     owners.add_argument("path", nargs="?", metavar="PATH", help="the way to the field; all fields, where none is given")
+    owners.add_argument("--ways", action="store_true", help="each field by its whole way, in place of a tree")
     owners.add_argument("--manager", metavar="NAME", help="of all fields those that a manager owns")
-    words.add("log", "The commands of the history.", do_log, ("json",))
+    log = words.add("log", "What each command of the history did.", do_log, FORMS)
+    log.add_argument("--path", metavar="PATH", help="who changed this field, when, from what to what")
+    log.add_argument("--fights", action="store_true", help="the fields that two managers took from each other")
+    _add_view(words)
     return words.top
+
+
+def _add_view(words):
+    view = words.add("view", "A page of the object, who owns what, and the history, as HTML.", do_view)
+    view.add_argument("-f", "--filename", dest="file", metavar="FILE", help="a manifest that is explained beside the object")
+    view.add_argument("--field-manager", default="kubectl", metavar="NAME", help="who would apply it (kubectl)")
+    view.set_defaults(does="apply", subresource=None, at=None, force_conflicts=False, migrate=False)
 
 
 def _add_open(words):
