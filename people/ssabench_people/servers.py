@@ -1,14 +1,12 @@
 """What a server would do otherwise with an apply: told by this program, and proved by nobody.
 
-The rules are those of Kubernetes' own merge. *Removals*: what an applier gives up goes with the named fields above it, and with all
-that stands below these, but where a field that an applier owns, or the named fields above that, are among them; what an Update
-owns, or nobody, holds nothing. *Order*: the two lists are merged from their heads, led by the items that both have.
+The rules are those of Kubernetes' own merge. *Removals*: what an applier owned counts with the named fields above it, and so does
+what anybody owns afterwards; what only the first has goes with all that stands below. So an owner holds the named fields above what
+it owns, but no item and no entry of a map. *Order*: the two lists are merged from their heads, led by the items that both have.
 """
 from .changes import topmost
 from .documents import compact
 from .elements import named_keys, way_of
-
-APPLY = "Apply"
 
 
 def with_fields_above(root, paths):
@@ -36,8 +34,7 @@ def _below(place, text):
 def removals(root, changes):
     """What a server removes beside what the bench does: places with their ways, the topmost ones."""
     last = with_fields_above(root, changes.own_before)
-    appliers = [paths for owner, paths in changes.sets_after if owner["operation"] == APPLY]
-    held = with_fields_above(root, {path for paths in appliers for path in paths})
+    held = with_fields_above(root, {path for _, paths in changes.sets_after for path in paths})
     gone = {path: way_of(path) for path in last - held if changes.after.value(path) is not None}
     return topmost({path: way for path, way in gone.items() if path != ("f:metadata",)})
 

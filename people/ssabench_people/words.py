@@ -1,14 +1,9 @@
-"""The words: what each takes. What they do stands in `opening`, `commands` and `looks`."""
+"""The words: what each takes, and by which module and function it is done, which is loaded when the word is given."""
 import argparse
+import importlib
 import os
 import sys
 
-from .commands import do_command, do_diff, do_plain
-from .explain import do_explain
-from .logs import do_log
-from .looks import do_owners, do_show
-from .opening import do_open
-from .view import do_view
 from .refusal import Refusal
 from .report import line
 
@@ -63,13 +58,13 @@ def dry_run(word):
 def parser():
     words = Words()
     _add_open(words)
-    apply = words.add_of_file("apply", "A manager applies a manifest.", do_command, "kubectl", (*FORMS, "name"))
+    apply = words.add_of_file("apply", "A manager applies a manifest.", "commands.do_command", "kubectl", (*FORMS, "name"))
     diff = words.add_of_file(
-        "diff", "What an apply would change.", do_diff, "kubectl", statuses="statuses: 0 nothing; 1 something; 2 and 3 refused"
+        "diff", "What an apply would change.", "commands.do_diff", "kubectl", statuses="statuses: 0 nothing; 1 something; 2 and 3 refused"
     )
     diff.add_argument("--show-managed-fields", action="store_true", help="with the managers' entries")
     explain = words.add_of_file(
-        "explain", "What an apply would do, field by field, and what a server would do otherwise.", do_explain, "kubectl", FORMS
+        "explain", "What an apply would do, field by field, and what a server would do otherwise.", "explain.do_explain", "kubectl", FORMS
     )
     explain.add_argument("--migrate", action="store_true", help="as after kubectl's migration from client-side apply")
     for word in (apply, diff, explain):
@@ -78,19 +73,19 @@ def parser():
         word.add_argument("--server-side", action="store_true", help="as kubectl's; nothing else is done here")
     dry_run(apply)
     update = words.add_of_file(
-        "update", "A manager replaces the object.", do_command, "kubectl-replace", (*FORMS, "name"), aliases=("replace",)
+        "update", "A manager replaces the object.", "commands.do_command", "kubectl-replace", (*FORMS, "name"), aliases=("replace",)
     )
     dry_run(update)
-    dry_run(words.add("strip", "Forget all managers.", do_plain, FORMS))
-    words.add("undo", "Go back over a command.", do_plain, FORMS)
-    words.add("redo", "Go on over an undone command.", do_plain, FORMS)
-    show = words.add("show", "The object.", do_show, (*FORMS, "name"))
+    dry_run(words.add("strip", "Forget all managers.", "commands.do_plain", FORMS))
+    words.add("undo", "Go back over a command.", "commands.do_plain", FORMS)
+    words.add("redo", "Go on over an undone command.", "commands.do_plain", FORMS)
+    show = words.add("show", "The object.", "looks.do_show", (*FORMS, "name"))
     show.add_argument("--show-managed-fields", action="store_true", help="with its managers' entries")
-    owners = words.add("owners", "Who owns a field, or each.", do_owners, FORMS)
+    owners = words.add("owners", "Who owns a field, or each.", "looks.do_owners", FORMS)
     owners.add_argument("path", nargs="?", metavar="PATH", help="the way to the field; all fields, where none is given")
     owners.add_argument("--ways", action="store_true", help="each field by its whole way, in place of a tree")
     owners.add_argument("--manager", metavar="NAME", help="of all fields those that a manager owns")
-    log = words.add("log", "What each command of the history did.", do_log, FORMS)
+    log = words.add("log", "What each command of the history did.", "logs.do_log", FORMS)
     log.add_argument("--path", metavar="PATH", help="who changed this field, when, from what to what")
     log.add_argument("--fights", action="store_true", help="the fields that two managers took from each other")
     _add_view(words)
@@ -98,14 +93,14 @@ def parser():
 
 
 def _add_view(words):
-    view = words.add("view", "A page of the object, who owns what, and the history, as HTML.", do_view)
+    view = words.add("view", "A page of the object, who owns what, and the history, as HTML.", "view.do_view")
     view.add_argument("-f", "--filename", dest="file", metavar="FILE", help="a manifest that is explained beside the object")
     view.add_argument("--field-manager", default="kubectl", metavar="NAME", help="who would apply it (kubectl)")
     view.set_defaults(does="apply", subresource=None, at=None, force_conflicts=False, migrate=False)
 
 
 def _add_open(words):
-    word = words.add("open", "Make a bench of a schema and an object.", do_open)
+    word = words.add("open", "Make a bench of a schema and an object.", "opening.do_open")
     schema = "a CustomResourceDefinition or an OpenAPI document, in YAML or JSON; - is standard input"
     word.add_argument("--schema", action="append", required=True, metavar="FILE", help=schema)
     word.add_argument("--kind", help="the kind, where it isn't the object's")
@@ -123,7 +118,8 @@ def main(words):
         words = [*words[1:2], "--help"]
     args = parser().parse_args(["--dry-run=server" if word == "--dry-run" else word for word in words])
     try:
-        return args.do(args)
+        module, name = args.do.split(".")
+        return getattr(importlib.import_module(f".{module}", __package__), name)(args)
     except Refusal as refusal:
         line(refusal.sentence)
         return refusal.status

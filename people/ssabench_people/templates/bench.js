@@ -1,14 +1,36 @@
 "use strict";
 // The page of a bench. A node is [part of the way, value or null, owners, children, is an item]; rows are made when they are seen.
+class Ways { // ways that are marked: whether one is among them, or stands below another
+  constructor(ways) {
+    this.all = new Set(ways);
+    this.sorted = [...this.all].sort();
+  }
+  has(way) {
+    return this.all.has(way);
+  }
+  hasBelow(way) {
+    return [`${way}.`, `${way}[`].some((beginning) => {
+      let [low, high] = [0, this.sorted.length];
+      while (low < high) {
+        const middle = (low + high) >> 1;
+        if (this.sorted[middle] < beginning) low = middle + 1;
+        else high = middle;
+      }
+      return low < this.sorted.length && this.sorted[low].startsWith(beginning);
+    });
+  }
+}
+
 const data = JSON.parse(document.getElementById("data").textContent);
 const AT_ONCE = 200; // children that a branch shows at a time
+const ROWS = 800; // rows that are opened at once
 const FEW = 300; // fields of an object that is opened from the start
 const element = (id) => document.getElementById(id);
 const tree = element("tree");
-const opened = new Map(); // the way of an open branch, and how many children it shows
+const opened = new Map(); // the way of an open branch, and which of its children it shows: [the first, the one after the last]
 const fieldCounts = new Map(); // node: fields below it
 const ownedCounts = new Map(); // manager: (node: its places at and below it)
-const conflicts = new Set(data.manifests.flatMap((one) => one.conflicts.map((conflict) => conflict.way)));
+const conflicts = new Ways(data.manifests.flatMap((one) => one.conflicts.map((conflict) => conflict.way)));
 let step = data.present;
 let pinned = null;
 let hovered = null;
@@ -50,7 +72,7 @@ function mark(manager) {
 }
 
 function changedWays() {
-  return new Set(step === 0 ? [] : data.steps[step - 1].changes.map((change) => change.way));
+  return new Ways(step === 0 ? [] : data.steps[step - 1].changes.map((change) => change.way));
 }
 
 function label(node) {
@@ -86,7 +108,7 @@ function row(number, way, depth, changed) {
   marks.append(...owners.map(mark));
   one.append(marks);
   one.setAttribute("aria-label", `${way} ${children.length ? "" : node[1]} ${owners.map((manager) => data.managers[manager]).join(", ") || (children.length ? "" : "nobody")}`);
-  const isMarked = (ways) => ways.has(way) || (children.length && !opened.has(way) && [...ways].some((other) => other.startsWith(way) && other !== way));
+  const isMarked = (ways) => ways.has(way) || (children.length && !opened.has(way) && ways.hasBelow(way));
   if (isMarked(changed)) one.classList.add("changed");
   if (isMarked(conflicts)) one.classList.add("in-conflict");
   return one;
@@ -94,20 +116,25 @@ function row(number, way, depth, changed) {
 
 function addRows(number, way, depth, changed, rows) {
   const children = data.nodes[number][3];
-  const most = way === "" ? children.length : opened.get(way);
-  for (const child of children.slice(0, most)) {
+  const [first, end] = opened.get(way) || [0, children.length];
+  if (first > 0) rows.push(more(way, depth, first, [Math.max(0, first - AT_ONCE), end]));
+  for (const child of children.slice(first, end)) {
     const below = way + data.nodes[child][0];
     rows.push(row(child, below, depth, changed));
     if (opened.has(below)) addRows(child, below, depth + 1, changed, rows);
   }
-  if (children.length > most) {
-    const more = made("div", "row more", `.. ${children.length - most} more`);
-    more.setAttribute("role", "treeitem");
-    more.tabIndex = -1;
-    more.style.setProperty("--depth", depth);
-    Object.assign(more, { moreOf: way, way: `${way} more` });
-    rows.push(more);
-  }
+  if (children.length > end) rows.push(more(way, depth, children.length - end, [first, end + AT_ONCE]));
+}
+
+// A row that stands for children that aren't shown; `next` is what is shown after it was pressed.
+function more(way, depth, count, next) {
+  const one = made("div", "row more", `.. ${count} more`);
+  one.setAttribute("role", "treeitem");
+  one.setAttribute("aria-level", depth + 1);
+  one.tabIndex = -1;
+  one.style.setProperty("--depth", depth);
+  Object.assign(one, { moreOf: way, next, way: `${way} more from ${next[0]}` });
+  return one;
 }
 
 function drawTree() {
@@ -177,10 +204,10 @@ function go(to) {
 }
 
 function toggle(one) {
-  if (one.moreOf !== undefined) opened.set(one.moreOf, opened.get(one.moreOf) + AT_ONCE);
+  if (one.moreOf !== undefined) opened.set(one.moreOf, one.next);
   else if (!one.hasAttribute("aria-expanded")) return;
   else if (opened.has(one.way)) opened.delete(one.way);
-  else opened.set(one.way, AT_ONCE);
+  else opened.set(one.way, [0, AT_ONCE]);
   one.focus({ preventScroll: true });
   drawTree();
 }
@@ -190,13 +217,13 @@ function openBelow(number, way, left) {
     const below = way + data.nodes[child][0];
     if (left.count <= 0 || !data.nodes[child][3].length) continue;
     left.count -= Math.min(AT_ONCE, data.nodes[child][3].length);
-    opened.set(below, AT_ONCE);
+    opened.set(below, [0, AT_ONCE]);
     openBelow(child, below, left);
   }
 }
 
 function openAll() {
-  openBelow(data.states[step], "", { count: 2000 });
+  openBelow(data.states[step], "", { count: ROWS });
   drawTree();
 }
 
@@ -207,7 +234,8 @@ function show(way) {
   for (;;) {
     const index = data.nodes[number][3].findIndex((child) => isBeginning(here + data.nodes[child][0], way));
     if (index < 0) break;
-    if (here !== "") opened.set(here, Math.max(opened.get(here) || AT_ONCE, index + 1));
+    const [first, end] = opened.get(here) || [0, 0];
+    if (here !== "" && (index < first || index >= end)) opened.set(here, [index - (index % AT_ONCE), index - (index % AT_ONCE) + AT_ONCE]);
     number = data.nodes[number][3][index];
     here += data.nodes[number][0];
   }
@@ -280,5 +308,5 @@ function closeAll() {
 
 element("slider").max = data.steps.length;
 drawManagers();
-if (fields(data.states[step]) <= FEW) openBelow(data.states[step], "", { count: 2000 });
+if (fields(data.states[step]) <= FEW) openBelow(data.states[step], "", { count: ROWS });
 drawStep();
