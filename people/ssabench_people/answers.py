@@ -4,7 +4,6 @@ import json
 from .along import place_at, value_at
 from .documents import compact, to_yaml
 from .elements import told_paths
-from .fields import said_paths
 from .migration import client_side_appliers
 from .report import line
 from .terminal import say
@@ -62,17 +61,6 @@ def who(owner):
     """A manager with its operation, and the part through which it acts where that is a subresource."""
     part = f" through {owner['subresource']}" if owner.get("subresource") else ""
     return f"{owner['manager']} ({owner['operation']}{part})"
-
-
-def owned_below(live, texts):
-    """Each entry that owns something below a path, with how many paths."""
-    found = []
-    for entry in live["metadata"].get("managedFields") or []:
-        paths = said_paths(entry["fieldsV1"])
-        count = sum(1 for path in paths if path[: len(texts)] == texts and len(path) > len(texts))
-        if count:
-            found.append((entry, count))
-    return found
 
 
 def print_change(root, name, done, reply):

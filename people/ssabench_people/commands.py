@@ -108,6 +108,7 @@ def dry(args):
 
 def do_diff(args):
     """What an apply would change, as YAML: status 0 nothing, 1 something, 2 where it is refused, as kubectl has it."""
+    form, args.output = args.output, None
     with Bench(args.bench).copied() as bench:
         before = bench.live()
         status = carried_out(args, bench, lambda value, reply: None)
@@ -115,6 +116,9 @@ def do_diff(args):
             return max(status, 2)
         shown = [_lines(value, args.show_managed_fields) for value in (before, bench.live())]
     told = list(difflib.unified_diff(*shown, "live", "applied", lineterm=""))
+    if form:
+        print_value({"done": "diff", "lines": told}, form)
+        return 1 if told else 0
     for one in told:
         say((one, {"-": "removed", "+": "added", "@": "owner"}.get(one[0], "")))
     return 1 if told else 0

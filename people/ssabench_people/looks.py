@@ -1,7 +1,7 @@
 """The words that look at a bench: the object, and who owns what. `logs` has the one that tells the history."""
 from . import engine
 from .along import Along
-from .answers import object_name, owned_below, owner_part, print_value, shown_value, who
+from .answers import object_name, owner_part, print_value, shown_value, who
 from .bench import Bench
 from .changes import sets
 from .documents import compact
@@ -29,7 +29,7 @@ def do_owners(args):
         return _all_owners(bench, live, args)
     here = followed(bench.root, live, args.path)
     owners = [] if here.is_nobodys else engine.asked("owners", args.bench, compact(here.path))["owners"]
-    below = owned_below(live, here.texts)
+    below = _owned_below(live, here.texts)
     if args.output:
         counts = [{"owner": owner, "fields": count} for owner, count in below]
         print_value({"done": "owners", "path": list(here.texts), "owners": owners} | ({"below": counts} if below else {}), args.output)
@@ -41,6 +41,12 @@ def do_owners(args):
     if not owners and not below:
         say(("nobody", "nobody"))
     return 0
+
+
+def _owned_below(live, texts):
+    """Each owner of something below a path, with how many places."""
+    counts = [(owner, sum(1 for path in paths if path[: len(texts)] == texts and len(path) > len(texts))) for owner, paths in sets(live)]
+    return [(owner, count) for owner, count in counts if count]
 
 
 class Row:

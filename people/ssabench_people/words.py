@@ -60,7 +60,7 @@ def parser():
     _add_open(words)
     apply = words.add_of_file("apply", "A manager applies a manifest.", "commands.do_command", "kubectl", (*FORMS, "name"))
     diff = words.add_of_file(
-        "diff", "What an apply would change.", "commands.do_diff", "kubectl", statuses="statuses: 0 nothing; 1 something; 2 and 3 refused"
+        "diff", "What an apply would change.", "commands.do_diff", "kubectl", FORMS, statuses="statuses: 0 nothing; 1 something; 2 and 3 refused"
     )
     diff.add_argument("--show-managed-fields", action="store_true", help="with the managers' entries")
     explain = words.add_of_file(
@@ -100,7 +100,7 @@ def _add_view(words):
 
 
 def _add_open(words):
-    word = words.add("open", "Make a bench of a schema and an object.", "opening.do_open")
+    word = words.add("open", "Make a bench of a schema and an object.", "opening.do_open", FORMS)
     schema = "a CustomResourceDefinition or an OpenAPI document, in YAML or JSON; - is standard input"
     word.add_argument("--schema", action="append", required=True, metavar="FILE", help=schema)
     word.add_argument("--kind", help="the kind, where it isn't the object's")

@@ -20,7 +20,8 @@ import largest
 from test_speed import run
 
 HERE = os.path.dirname(os.path.realpath(__file__))
-AT_MOST = 1000  # milliseconds that something on the page may take, on a machine with other work
+AT_MOST = 3000  # milliseconds that something on the page may take on a machine with much other work: ten times an idle one's
+ROWS = 1300  # that stand on the page at once, whatever was opened
 
 DEPLOYMENT = """
 const way = (row) => row.dataset.way;
@@ -208,8 +209,9 @@ class Page(unittest.TestCase):
         self.assertEqual(noted["close all"][1], 4)
         took = {name: value[0] for name, value in noted.items() if isinstance(value, list)}
         print(f"\nmeasured: the page of {largest.PATHS} paths, in milliseconds: {took}", file=sys.__stderr__)
-        for name, milliseconds in took.items():
-            self.assertLess(milliseconds, AT_MOST if name != "first" else 3 * AT_MOST, name)
+        for name in took:
+            self.assertLess(took[name], AT_MOST, name)
+            self.assertLess(noted[name][1], ROWS, name)
 
 
 if __name__ == "__main__":
