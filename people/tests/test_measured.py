@@ -127,6 +127,7 @@ class Measured(unittest.TestCase):
                 schema = schemas.found(documents, label, names)
                 texts += self.round_trip(documents, names, schema.root, schema.definitions)
                 well += 1
+        self.assertGreaterEqual(tried, 100)
         self.assertGreaterEqual(well, tried * 0.98)
         said(f"{well} of {tried} CustomResourceDefinitions open, filled to the last field, with an owner of it all, and come back equal; {texts} values stood as texts")
 
