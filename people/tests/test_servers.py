@@ -14,6 +14,7 @@ SPEC = {
     "properties": {
         "items": {"type": "array", "x-kubernetes-list-type": "map", "x-kubernetes-list-map-keys": ["name"], "items": ITEM},
         "limits": {"type": "object", "additionalProperties": TEXT},
+        "groups": {"type": "object", "additionalProperties": ITEM},
         "probe": {"type": "object", "properties": {"path": TEXT, "period": TEXT}},
     },
 }
@@ -91,6 +92,8 @@ class Removals(unittest.TestCase):
         self.assertEqual(with_fields_above(ROOT, {path}), wanted)
         entry = ("f:spec", "f:limits", "f:cpu")
         self.assertEqual(with_fields_above(ROOT, {entry}), {entry, entry[:1], entry[:2]})
+        below = ("f:spec", "f:groups", "f:a", "f:probe", "f:path")
+        self.assertEqual(with_fields_above(ROOT, {below}), {below, below[:1], below[:2], below[:4]})
 
 
 if __name__ == "__main__":
