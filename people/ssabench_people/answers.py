@@ -3,7 +3,7 @@ import json
 
 from .along import place_at, value_at
 from .documents import compact, to_yaml
-from .elements import told_paths
+from .elements import told_paths, way_of
 from .migration import client_side_appliers
 from .report import line
 from .terminal import say
@@ -68,17 +68,19 @@ def print_change(root, name, done, reply):
     say(f"{name} {done}")
     for part in ("added", "modified", "removed"):
         for _, way in told_paths(root, reply[part]):
-            say("  ", (f"{part:<9}", part), way)
+            say("  ", (f"{part:<8} ", part), way)
 
 
 def change_parts(change):
     """A change as the parts of a line."""
     what = change["what"]
-    parts = [(f"{what:<9}", what), change["way"]]
+    parts = [(f"{what:<8} ", what), change["way"]]
     if what == "modified":
         parts.append(f": {shown_value(change['from'])} -> {shown_value(change['to'])}")
     elif what in ("added", "removed"):
         parts.append(f": {shown_value(change['to' if what == 'added' else 'from'])}")
+    elif what == "reordered":
+        parts.append(f": {', '.join(way_of((item,)) for item in change['items'])}")
     for name, words in (("with", "with"), ("takenFrom", "taken from")):
         if change.get(name):
             parts += [f", {words} ", owner_part(change[name])]

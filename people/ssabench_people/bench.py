@@ -55,6 +55,19 @@ class Bench:
             shown["metadata"]["managedFields"] = [shown_entry(self.root, entry) for entry in entries]
         return shown
 
+    def reordered(self):
+        """For each command of the history, from the first to the last, the paths of the lists whose items it put in another order,
+        as the records in the bench's file tell them."""
+        try:
+            with open(self.name, encoding="utf-8") as file:
+                past = json.loads(file.readline())["past"]
+                file.readline()
+                file.readline()
+                found = [[path for path, _ in json.loads(line)["record"]["order"]] for line in file]
+        except (OSError, ValueError, KeyError, TypeError) as fault:
+            raise Refusal(f"{self.name}: not a bench's file as this program reads it", 3) from fault
+        return found[:past][::-1] + found[past:]
+
     @contextlib.contextmanager
     def copied(self):
         """The same bench in a copy of its file, for what is to change nothing."""

@@ -1,8 +1,9 @@
 """What a command changed: by the proved program's comparison, and by the managers' entries before and after it.
 
-A change is a dict: `what` is `added`, `modified`, `removed`, `shared`, `claimed` or `given up`; `path` the element texts as servers
-write them and `way` as people do; `from` and `to` values, where there are some; `takenFrom` who owned the place until the command
-took it, `with` who owns it too, `keptBy` for whose sake a place stays that its applier gave up.
+A change is a dict: `what` is `added`, `modified`, `removed`, `reordered`, `shared`, `claimed` or `given up`; `path` the element texts
+as servers write them and `way` as people do; `from` and `to` values, where there are some; `items` of a list that was reordered;
+`takenFrom` who owned the place until the command took it, `with` who owns it too, `keptBy` for whose sake a place stays that its
+applier gave up.
 """
 import functools
 import json
@@ -48,12 +49,13 @@ def topmost(ways):
 class Changes:
     """The changes of one command by `actor`, None where it is nobody's, from one object to another, as people see them."""
 
-    def __init__(self, root, before, after, actor, reply):
+    def __init__(self, root, before, after, actor, reply, reordered=()):
         self.actor = actor
         self.before, self.after = Finder(root, before), Finder(root, after)
         self.sets_before, self.sets_after = sets(before), sets(after)
         told = {part: told_paths(root, reply[part]) for part in ("added", "modified", "removed")}
         self.compared = {part: {tuple(texts): way for texts, way in ways} for part, ways in told.items()}
+        self.reordered = told_paths(root, reordered)
         self.own_before, self.own_after = self._own(self.sets_before), self._own(self.sets_after)
 
     def _own(self, which):
@@ -85,6 +87,14 @@ class Changes:
     def values(self, parts=("added", "modified", "removed")):
         """What was added, modified and removed; of what came or went as a whole the topmost place."""
         return [self.valued(part, path, way) for part in parts for path, way in topmost(self.compared[part])]
+
+    def orders(self):
+        """The lists whose items stand in another order, with their items."""
+        found = []
+        for texts, way in self.reordered:
+            items = [child.texts[-1] for child in self.after.at(tuple(texts)).children()]
+            found.append({"what": "reordered", "path": texts, "way": way, "items": items})
+        return found
 
     def valued(self, what, path, way):
         told = {"what": what, "path": list(path), "way": way}

@@ -68,7 +68,7 @@ def _explained(args, bench, value, turned, live):
         tell_refused(bench.root, args, reply, lines, live, value)
         return None, status
     label = {"do": "apply", "manager": args.field_manager} | ({"subresource": args.subresource} if args.subresource else {})
-    changes = Changes(bench.root, live, bench.live(), acting(label), reply)
+    changes = Changes(bench.root, live, bench.live(), acting(label), reply, bench.reordered()[-1])
     found = {
         "object": object_name(value),
         "manager": args.field_manager,
@@ -87,7 +87,7 @@ def _of_manifest(changes):
     beside = {path: way for path, way in removed.items() if not _stands_by(path, given_up)}
     goes = [changes.valued("removed", *place) | {"what": "given up", "goes": True} for place in topmost(given_up)]
     went = [changes.valued("removed", *place) for place in topmost(beside)]
-    return [*changes.values(("added", "modified")), *went, *changes.ownership(all_shared=True), *goes]
+    return [*changes.values(("added", "modified")), *went, *changes.orders(), *changes.ownership(all_shared=True), *goes]
 
 
 def _stands_by(path, places):

@@ -20,6 +20,10 @@ class Step:
     def actor(self):
         return self.changes.actor
 
+    def all_changes(self):
+        """What the command changed, as `changes` has it."""
+        return self.changes.values() + self.changes.orders() + self.changes.ownership()
+
 
 def heading(step):
     """A command in a line: when, what, by whom."""
@@ -39,9 +43,9 @@ def walked(bench, most=None):
     done, labels = len(log["past"]) - left_out, labels[left_out:]
     objects = _objects(bench, len(log["future"]), len(labels))
     shown = [bench.shown(value) for value in objects]
-    steps = []
+    steps, reordered = [], bench.reordered()[left_out:]
     for number, reply in enumerate(_comparisons(bench, objects, labels)):
-        changes = Changes(bench.root, shown[number], shown[number + 1], acting(labels[number]), reply)
+        changes = Changes(bench.root, shown[number], shown[number + 1], acting(labels[number]), reply, reordered[number])
         steps.append(Step(labels[number], number >= done, changes))
     return shown[0], steps
 

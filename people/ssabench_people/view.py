@@ -117,8 +117,7 @@ def page_data(bench, args):
     for step in steps:
         before = Before(nodes, states[-1], step.changes, touched_by(step.changes))
         states.append(nodes.tree(step.changes.after.whole, before))
-        changes = step.changes.values() + step.changes.ownership()
-        told.append({"heading": heading(step), "undone": step.undone, "changes": [_shown(change) for change in changes]})
+        told.append({"heading": heading(step), "undone": step.undone, "changes": [_shown(change) for change in step.all_changes()]})
     return {
         "object": object_name(live),
         "managers": list(nodes.managers),

@@ -1,4 +1,5 @@
 """What `explain` and `log` tell, beside what the proved program said when the commands were given: drawn stories."""
+import argparse
 import contextlib
 import io
 import json
@@ -9,6 +10,8 @@ import tempfile
 import unittest
 
 import beside  # noqa: F401
+from ssabench_people.bench import Bench
+from ssabench_people.view import page_data
 from ssabench_people.words import main
 
 EXAMPLE = os.path.join(os.path.dirname(os.path.dirname(os.path.realpath(__file__))), "example")
@@ -156,6 +159,50 @@ class Told(unittest.TestCase):
                 if change["what"] == "modified":
                     taken = [(owner["manager"], owner["operation"]) for owner in change.get("takenFrom", [])]
                     self.assertEqual(taken, lost[tuple(change["path"])])
+
+
+class Trees(unittest.TestCase):
+    def test_the_page_has_each_object_of_the_history_with_its_owners(self):
+        with tempfile.TemporaryDirectory(prefix="ssabench-trees-") as folder:
+            shutil.copytree(EXAMPLE, folder, dirs_exist_ok=True)
+            bench, turned, team = (os.path.join(folder, name) for name in ("web.bench", "turned.json", "team.yaml"))
+            run("open", "--schema", os.path.join(folder, "apps.yaml"), "-f", os.path.join(folder, "live.yaml"), "-o", "json", bench)
+            _, first, _ = run("show", "-o", "json", "--show-managed-fields", bench)
+            value = {**first, "metadata": {"name": "web"}}
+            value["spec"]["template"]["spec"]["containers"].reverse()
+            with open(turned, "w", encoding="utf-8") as file:
+                json.dump(value, file)
+            objects = [run("show", "-o", "json", "--show-managed-fields", bench)[1]]
+            for words in (("update", "-f", turned), ("apply", "-f", team, "--field-manager", "team", "--force-conflicts")):
+                self.assertEqual(run(*words, "-o", "json", "--at", "2024-05-01T10:00:01Z", bench)[0], 0)
+                objects.append(run("show", "-o", "json", "--show-managed-fields", bench)[1])
+            data = page_data(Bench(bench), argparse.Namespace(file=None))
+        self.assertEqual(len(data["states"]), 3)
+        for number, shown in zip(data["states"], objects):
+            self.same(data, number, "", {**shown, "metadata": {**shown["metadata"]}}, shown, ())
+        self.assertEqual([change["what"] for change in data["steps"][0]["changes"]], ["removed", "removed", "reordered"])  # annotations, labels; the containers
+
+    def same(self, data, number, way, value, shown, path):
+        """Whether a node is a value with its owners, all the way down; metadata's sets aside."""
+        part, text, numbers, children, is_item = data["nodes"][number]
+        self.assertTrue(way.endswith(part))
+        self.assertEqual([data["managers"][one] for one in numbers], [f"{name} ({operation})" for name, operation in owners(shown, path)], way)
+        if not children:
+            self.assertEqual(json.loads(text), value, way)
+            return
+        if isinstance(value, list):
+            self.assertEqual(len(children), len(value), way)
+            for child, item in zip(children, value):
+                keys = json.dumps({"name": item["name"]}, separators=(",", ":"))
+                self.same(data, child, way + data["nodes"][child][0], item, shown, (*path, "k:" + keys))
+            return
+        names = sorted(name for name in value if name != "managedFields")
+        self.assertEqual(len(children), len(names), way)
+        for child in children:
+            name = data["nodes"][child][0].removeprefix(".")
+            name = json.loads(name[1:-1]) if name.startswith("[") else name
+            self.assertIn(name, names)
+            self.same(data, child, way + data["nodes"][child][0], value[name], shown, (*path, f"f:{name}"))
 
 
 if __name__ == "__main__":
