@@ -2,6 +2,7 @@
 import json
 import os
 
+from . import engine
 from .along import Along
 from .answers import change_parts, object_name, who
 from .bench import Bench
@@ -11,6 +12,7 @@ from .elements import way_of, way_of_name
 from .explain import NOT_PROVED, explained_file
 from .history import heading, walked
 from .refusal import Refusal
+from .report import counted, line
 from .terminal import plain
 
 MOST_BYTES = 30_000_000  # of all objects of the history together, by the size of the present one
@@ -111,6 +113,10 @@ def page_data(bench, args):
     """What the page has to show, as a value of JSON."""
     live = bench.live()
     first, steps = walked(bench, max(1, MOST_BYTES // len(compact(live))))
+    log = engine.asked("log", bench.name)
+    left_out = len(log["past"]) + len(log["future"]) - len(steps)
+    if left_out:
+        line(f"{counted(left_out, 'earlier command')} left out: the page would have more than {MOST_BYTES} bytes of objects")
     nodes = Nodes(bench.root)
     states = [nodes.tree(first)]
     told = []
@@ -124,6 +130,7 @@ def page_data(bench, args):
         "nodes": nodes.nodes,
         "states": states,
         "steps": told,
+        "leftOut": left_out,
         "present": sum(1 for step in steps if not step.undone),
         "manifests": _manifests(args) if args.file else [],
     }

@@ -8,8 +8,10 @@ import random
 import shutil
 import tempfile
 import unittest
+import unittest.mock
 
 import beside  # noqa: F401
+from ssabench_people import view
 from ssabench_people.bench import Bench
 from ssabench_people.view import page_data
 from ssabench_people.words import main
@@ -181,6 +183,25 @@ class Trees(unittest.TestCase):
         for number, shown in zip(data["states"], objects):
             self.same(data, number, "", {**shown, "metadata": {**shown["metadata"]}}, shown, ())
         self.assertEqual([change["what"] for change in data["steps"][0]["changes"]], ["removed", "removed", "reordered"])  # annotations, labels; the containers
+
+    def test_a_long_history_shows_its_latest_steps(self):
+        with tempfile.TemporaryDirectory(prefix="ssabench-trees-") as folder:
+            shutil.copytree(EXAMPLE, folder, dirs_exist_ok=True)
+            bench = os.path.join(folder, "web.bench")
+            run("open", "--schema", os.path.join(folder, "apps.yaml"), "-f", os.path.join(folder, "live.yaml"), "-o", "json", bench)
+            for number, name in enumerate(("team", "autoscaler", "team")):
+                words = ("-f", os.path.join(folder, f"{name}.yaml"), "--field-manager", name, "--at", f"2024-05-01T10:00:0{number}Z")
+                self.assertEqual(run("apply", *words, "--force-conflicts", "-o", "json", bench)[0], 0)
+            run("undo", "-o", "json", bench)
+            told = io.StringIO()
+            with unittest.mock.patch.object(view, "MOST_BYTES", 1), contextlib.redirect_stderr(told):
+                short = page_data(Bench(bench), argparse.Namespace(file=None))
+            with contextlib.redirect_stderr(told):
+                whole = page_data(Bench(bench), argparse.Namespace(file=None))
+        self.assertEqual((short["leftOut"], len(short["steps"]), short["present"]), (2, 1, 0))
+        self.assertEqual((whole["leftOut"], len(whole["steps"]), whole["present"]), (0, 3, 2))
+        self.assertEqual(short["steps"], whole["steps"][2:])
+        self.assertEqual(told.getvalue(), "kubectl-ssabench: 2 earlier commands left out: the page would have more than 1 bytes of objects\n")
 
     def same(self, data, number, way, value, shown, path):
         """Whether a node is a value with its owners, all the way down; metadata's sets aside."""

@@ -179,7 +179,7 @@ function pin(number) {
 function drawStep() {
   const root = data.states[step];
   element("slider").value = step;
-  element("step").textContent = step === 0 ? `0 of ${data.steps.length}: as it was at first` : `${step} of ${data.steps.length}: ${data.steps[step - 1].heading}`;
+  element("step").textContent = step === 0 ? `0 of ${data.steps.length}: as it was ${data.leftOut ? `after ${data.leftOut} earlier ones` : "at first"}` : `${step} of ${data.steps.length}: ${data.steps[step - 1].heading}`;
   element("back").disabled = step === 0;
   element("on").disabled = step === data.steps.length;
   element("about").textContent = `${fields(root)} fields, ${data.managers.filter((_, number) => owned(number, root)).length} managers${step === data.present ? "" : "; not as it is now"}`;
