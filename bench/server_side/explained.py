@@ -111,7 +111,8 @@ class Explained(Stories):
         ours, _ = self.workbench.asked("apply", value, manager, True)
         wanted, plain, explained = (text(without_empty(body(one))) for one in (theirs, ours, with_told(ours, told)))
         self.counts["applies"] += 1
-        self.counts[f"{'answered otherwise' if wanted != plain else 'answered as here'}, {'told' if wanted == explained else 'NOT told'}"] += 1
+        answered = "answered as here" if wanted == plain else "answered otherwise"
+        self.counts[f"{answered}, {'told' if wanted == explained else 'NOT told'}"] += 1
         if wanted != explained and os.environ.get("SHOW"):
             print(json.dumps({"live": live, "value": value, "manager": manager, "theirs": wanted, "told": told, "explained": explained}))
 

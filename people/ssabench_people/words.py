@@ -30,12 +30,14 @@ class Words:
     """The words, added one after the other."""
 
     def __init__(self):
-        self.top = argparse.ArgumentParser(prog="kubectl-ssabench", description="A workbench for Server-Side Apply.", epilog=STATUSES, allow_abbrev=False)
+        told = "A workbench for Server-Side Apply."
+        self.top = argparse.ArgumentParser(prog="kubectl-ssabench", description=told, epilog=STATUSES, allow_abbrev=False)
         self.words = self.top.add_subparsers(dest="word", required=True, metavar="WORD")
 
     def add(self, name, told, do, forms=(), aliases=(), statuses=STATUSES):
         example = f"example: kubectl-ssabench {EXAMPLES[name]}"
-        word = self.words.add_parser(name, help=told, description=told, epilog=f"{example} | {statuses}", aliases=aliases, allow_abbrev=False)
+        ends = f"{example} | {statuses}"
+        word = self.words.add_parser(name, help=told, description=told, epilog=ends, aliases=aliases, allow_abbrev=False)
         word.set_defaults(do=do, does=name, output=None, dry_run=None)
         word.add_argument("bench", metavar="BENCH", help="the bench's file")
         if forms:
@@ -59,13 +61,11 @@ def parser():
     words = Words()
     _add_open(words)
     apply = words.add_of_file("apply", "A manager applies a manifest.", "commands.do_command", "kubectl", (*FORMS, "name"))
-    diff = words.add_of_file(
-        "diff", "What an apply would change.", "commands.do_diff", "kubectl", FORMS, statuses="statuses: 0 nothing; 1 something; 2 and 3 refused"
-    )
+    statuses = "statuses: 0 nothing; 1 something; 2 and 3 refused"
+    diff = words.add_of_file("diff", "What an apply would change.", "commands.do_diff", "kubectl", FORMS, statuses=statuses)
     diff.add_argument("--show-managed-fields", action="store_true", help="with the managers' entries")
-    explain = words.add_of_file(
-        "explain", "What an apply would do, field by field, and what a server would do otherwise.", "explain.do_explain", "kubectl", FORMS
-    )
+    told = "What an apply would do, field by field, and what a server would do otherwise."
+    explain = words.add_of_file("explain", told, "explain.do_explain", "kubectl", FORMS)
     explain.add_argument("--migrate", action="store_true", help="as after kubectl's migration from client-side apply")
     for word in (apply, diff, explain):
         word.set_defaults(does="apply")

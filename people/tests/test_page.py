@@ -172,9 +172,8 @@ class Page(unittest.TestCase):
         self.pictures("deployment", page)
         app, log = (f'.spec.template.spec.containers[name="{name}"]' for name in ("app", "log"))
         noted = self.notes(page, DEPLOYMENT)
-        ways = noted["ways"]
         for way in (".apiVersion", ".metadata.name", ".metadata.labels.app", ".spec.replicas", f"{app}.image", f"{log}.name"):
-            self.assertIn(way, ways)
+            self.assertIn(way, noted["ways"])
         team, other, editor, labeler, autoscaler = "team (Apply)", "other (Apply)", "editor (Update)", "labeler (Apply)", "autoscaler (Apply)"
         self.assertEqual([name[2:].rpartition(" ")[0] for name in noted["managers"]], [team, other, editor, labeler, autoscaler])
         self.assertEqual(noted["marks"], [[autoscaler], [team, other], []])
