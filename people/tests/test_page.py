@@ -82,6 +82,8 @@ timed("open all", () => document.getElementById("open-all").click());
 timed("lit", () => document.querySelectorAll("#managers button")[1].click());
 timed("wide", () => show(".spec.wide.w999"));
 note("shown", document.activeElement.dataset.way);
+const box = document.activeElement.getBoundingClientRect();
+note("seen", document.elementFromPoint(box.left + 40, box.top + 5).closest(".row").dataset.way);
 timed("slider", () => { document.getElementById("slider").value = 1; document.getElementById("slider").dispatchEvent(new Event("input")); });
 timed("close all", () => document.getElementById("close-all").click());
 """
@@ -204,7 +206,7 @@ class Page(unittest.TestCase):
         self.pictures("largest", page)
         noted = self.notes(page, LARGEST)
         self.assertEqual(noted["first"][1], 4)  # apiVersion, kind, metadata and spec: collapsed
-        self.assertEqual(noted["shown"], ".spec.wide.w999")
+        self.assertEqual((noted["shown"], noted["seen"]), (".spec.wide.w999", ".spec.wide.w999"))
         self.assertEqual(noted["close all"][1], 4)
         took = {name: value[0] for name, value in noted.items() if isinstance(value, list)}
         print(f"\nmeasured: the page of {largest.PATHS} paths, in milliseconds: {took}", file=sys.__stderr__)
