@@ -109,6 +109,11 @@ def missing():
         return "the page was not tried: it needs jinja2 (apt-get install python3-jinja2)"
     if chromium() is None:
         return "the page was not tried: it needs Chromium (apt-get install chromium)"
+    with tempfile.TemporaryDirectory(prefix="ssabench-chromium-", ignore_cleanup_errors=True) as folder:
+        try:
+            browser(folder, "--dump-dom", "about:blank")
+        except (OSError, subprocess.SubprocessError) as fault:
+            return f"the page was not tried: Chromium doesn't run here ({fault})"
     return None
 
 
@@ -116,6 +121,13 @@ def missing():
 def chromium():
     names = ("chromium", "chromium-browser", "google-chrome")
     return next((path for path in map(shutil.which, names) if path), None)
+
+
+def browser(folder, *words):
+    """What Chromium prints, with a profile of its own in a folder."""
+    common = ("--headless", "--no-sandbox", "--disable-gpu", "--disable-dev-shm-usage", f"--user-data-dir={folder}/profile")
+    words = [chromium(), *common, "--window-size=1400,1000", *words]
+    return subprocess.run(words, capture_output=True, text=True, timeout=120, check=True).stdout
 
 
 class Page(unittest.TestCase):
@@ -129,17 +141,12 @@ class Page(unittest.TestCase):
         self.addCleanup(folder.cleanup)
         self.folder = folder.name
 
-    def browser(self, *words):
-        common = ("--headless", "--no-sandbox", "--disable-gpu", "--disable-dev-shm-usage", f"--user-data-dir={self.folder}/profile")
-        words = [chromium(), *common, "--window-size=1400,1000", *words]
-        return subprocess.run(words, capture_output=True, text=True, timeout=120, check=True).stdout
-
     def notes(self, page, script):
         """What a script at the end of a page notes."""
         path = os.path.join(self.folder, "tried.html")
         with open(path, "w", encoding="utf-8") as file:
             file.write(page.replace("</body>", NOTES % script))
-        shown = self.browser("--dump-dom", f"file://{path}")
+        shown = browser(self.folder, "--dump-dom", f"file://{path}")
         found = json.loads(html.unescape(re.search(r'<pre id="notes">(.*?)</pre>', shown, re.DOTALL).group(1)))
         self.assertNotIn("fault", found, found.get("fault"))
         return found
@@ -154,7 +161,7 @@ class Page(unittest.TestCase):
             file.write(page)
         for scheme, number in (("dark", 0), ("light", 1)):
             picture = os.path.join(target, f"{name}-{scheme}.png")
-            self.browser(f"--blink-settings=preferredColorScheme={number}", f"--screenshot={picture}", f"file://{path}")
+            browser(self.folder, f"--blink-settings=preferredColorScheme={number}", f"--screenshot={picture}", f"file://{path}")
 
     def viewed(self, *words, folder=None):
         ran = run("view", *words, folder=folder)
