@@ -41,6 +41,11 @@ def acting(label):
     return owner_of(label | {"operation": OPERATIONS[label["do"]]}) if "manager" in label else None
 
 
+def above(paths):
+    """All places above some."""
+    return {path[:size] for path in paths for size in range(1, len(path))}
+
+
 def topmost(ways):
     """Of places with their ways those that stand below no other."""
     return [(path, ways[path]) for path in sorted(ways) if not any(path[:size] in ways for size in range(1, len(path)))]
@@ -78,11 +83,14 @@ class Changes:
         """Who owns a place afterwards, but for who gave the command."""
         return [owner for owner, paths in self.sets_after if path in paths and owner != self.actor]
 
+    @functools.cached_property
+    def _above_after(self):
+        """The owners afterwards, each with all places above its own."""
+        return [(owner, above(paths)) for owner, paths in self.sets_after]
+
     def keepers(self, path):
         """Who owns a place or something below it afterwards."""
-        size = len(path)
-        below = [owner for owner, paths in self.sets_after if any(one[:size] == path and len(one) > size for one in paths)]
-        return self.others(path) or below
+        return self.others(path) or [owner for owner, places in self._above_after if path in places]
 
     def values(self, parts=("added", "modified", "removed")):
         """What was added, modified and removed; of what came or went as a whole the topmost place."""
@@ -122,16 +130,16 @@ class Changes:
     def given_up(self):
         """What the actor owned and gave up though it stays, and for whose sake; but for branches in which it still owns something."""
         stays = {path for path in self.own_before - self.own_after if path not in self.compared["removed"]}
-        stays = {path for path in stays if not any(one[: len(path)] == path for one in self.own_after)}
+        stays -= above(self.own_after)
         return [self._owned("given up", path) | {"keptBy": self.keepers(path)} for path in self._without_keys(stays)]
 
     def _without_keys(self, paths):
         """The paths in their order, but for keys of items that are among them."""
 
         def is_key(path):
-            return path[:-1] in paths and path[-2].startswith("k:") and path[-1][2:] in json.loads(path[-2][2:])
+            return len(path) > 1 and path[:-1] in paths and path[-2].startswith("k:") and path[-1][2:] in json.loads(path[-2][2:])
 
-        return sorted(path for path in paths if len(path) < 2 or not is_key(path))
+        return sorted(path for path in paths if not is_key(path))
 
     def _owned(self, what, path):
         """A change of owners alone; the value is told of a place that has nothing below it."""

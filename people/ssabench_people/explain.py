@@ -3,7 +3,7 @@ from . import engine, servers
 from .along import Finder
 from .answers import WAYS_OUT, change_parts, object_name, owner_part, print_value, shown_change, shown_value, tell_client_side, who
 from .bench import Bench
-from .changes import Changes, acting, topmost
+from .changes import Changes, above, acting, topmost
 from .commands import asked_with, tell_refused, turned_manifests
 from .elements import told_paths, way_of
 from .migration import migrated
@@ -84,15 +84,16 @@ def _of_manifest(changes):
     """The changes; of what goes the fields that the applier gave up, each, and what went beside them."""
     removed = changes.compared["removed"]
     given_up = {path: way for path, way in removed.items() if path in changes.own_before}
-    beside = {path: way for path, way in removed.items() if not _stands_by(path, given_up)}
+    higher = above(given_up)
+    beside = {path: way for path, way in removed.items() if path not in higher and not _is_under(path, given_up)}
     goes = [changes.valued("removed", *place) | {"what": "given up", "goes": True} for place in topmost(given_up)]
     went = [changes.valued("removed", *place) for place in topmost(beside)]
     return [*changes.values(("added", "modified")), *went, *changes.orders(), *changes.ownership(all_shared=True), *goes]
 
 
-def _stands_by(path, places):
-    """Whether a path is one of the places, or stands above or below one."""
-    return any(path[: len(one)] == one[: len(path)] for one in places)
+def _is_under(path, places):
+    """Whether a path is one of the places, or stands below one."""
+    return any(path[:size] in places for size in range(1, len(path) + 1))
 
 
 def _conflicts(root, conflicts, live, value):

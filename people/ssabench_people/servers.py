@@ -4,6 +4,8 @@ The rules are those of Kubernetes' own merge. *Removals*: what an applier owned 
 what anybody owns afterwards; what only the first has goes with all that stands below. So an owner holds the named fields above what
 it owns, but no item and no entry of a map. *Order*: the two lists are merged from their heads, led by the items that both have.
 """
+import collections
+
 from .changes import topmost
 from .documents import compact
 from .elements import named_keys, way_of
@@ -41,30 +43,33 @@ def removals(root, changes):
 
 def merged_order(live, given):
     """The order of a merged list on a server, of the two lists of what items are known by."""
-    shared = [item for item in given if item in live]
+    in_live, in_given, done = set(live), set(given), set()
+    shared = collections.deque(item for item in given if item in in_live)
     merged, left, right = [], 0, 0
     while left < len(live) or right < len(given):
         head = live[left] if left < len(live) else None
         if left < len(live) and right < len(given):
             if head == given[right]:
-                shared = shared[1:]
+                shared.popleft()
                 merged.append(head)
+                done.add(head)
                 left, right = left + 1, right + 1
                 continue
-            if head in given and shared and shared[0] != head:
+            if head in in_given and shared and shared[0] != head:
                 left += 1
                 continue
         if left < len(live):
-            if head not in given:
+            if head not in in_given:
                 merged.append(head)
                 left += 1
                 continue
-            if head in merged:
+            if head in done:
                 left += 1
         if right < len(given):
             if shared and shared[0] == given[right]:
-                shared = shared[1:]
+                shared.popleft()
             merged.append(given[right])
+            done.add(given[right])
             right += 1
     return merged
 
@@ -81,7 +86,8 @@ def orders(changes, configured, gone):
         if here.place.is_list and live is not None and live.value:
             wanted = merged_order(*(_known(place, here.place) for place in (live, here)))
             now = [item for item in _known(after, here.place) if (*here.texts, item) not in gone]
-            wanted = [item for item in wanted if item in now]
+            stays = set(now)
+            wanted = [item for item in wanted if item in stays]
             if wanted != now and len(wanted) == len(now):
                 found.append((here.texts, here.way, wanted))
         for child in here.children():
