@@ -103,7 +103,7 @@ class Explained(Stories):
             live = theirs
 
     def compared(self, live, value, manager, theirs):
-        if "null" in text(live["spec"]):  # the field manager alone leaves nulls, a server doesn't
+        if "null" in text(live.get("spec", {})):  # the field manager alone leaves nulls, a server doesn't
             self.counts["left out: a null"] += 1
             return
         self.workbench.open(live)

@@ -108,16 +108,31 @@ OPENSHIFT = {  # of OpenShift's kinds those that its clusters have as definition
 }
 
 
-def _of_openshift():
-    """OpenShift's definitions, made again of its Go types."""
-    chosen = {f"github.com/openshift/api/{name}": kinds for name, kinds in OPENSHIFT.items()}
+OPENSHIFT_SERVER = ("apps/v1", "authorization/v1", "build/v1", "image/v1", "oauth/v1", "project/v1", "quota/v1", "route/v1", "security/v1", "template/v1", "user/v1")  # fmt: skip
+
+
+def _openshift(packages):
+    """The kinds of packages of OpenShift's API, made again of its Go types; each with its package's name."""
+    chosen = {f"github.com/openshift/api/{name}": name for name in packages}
     for names, name, sources in go_types.kinds(gocode(), list(chosen)):
-        package = next(one for one in chosen if name.startswith(one.replace("/", ".") + "."))
-        if names["kind"] == "MyOperatorResource" or chosen[package] and names["kind"] not in chosen[package]:
-            continue
+        package = next(chosen[one] for one in chosen if name.startswith(one.replace("/", ".") + "."))
         nodes = {full.replace("/", "."): node for full, node in sources.definitions.items()}
         nodes[name] = {**nodes[name], "x-kubernetes-group-version-kind": [names]}
-        yield f"OpenShift {names['kind']}", [{"openapi": "3.0.0", "components": {"schemas": nodes}}], names
+        yield package, f"OpenShift {names['kind']}", [{"openapi": "3.0.0", "components": {"schemas": nodes}}], names
+
+
+def _of_openshift():
+    """The kinds that OpenShift's clusters have as definitions."""
+    for package, label, documents, names in _openshift(OPENSHIFT):
+        if names["kind"] != "MyOperatorResource" and names["kind"] in (OPENSHIFT[package] or (names["kind"],)):
+            yield label, documents, names
+
+
+def of_openshifts_server():
+    """The kinds that a server of OpenShift's own has."""
+    for package, label, documents, names in _openshift(OPENSHIFT_SERVER):
+        if names["kind"] not in OPENSHIFT.get(package, ()):
+            yield label, documents, names
 
 
 def _of_rook():

@@ -135,6 +135,16 @@ class Measured(unittest.TestCase):
         self.assertGreaterEqual(well, tried * 0.98)
         said(f"{well} of {tried} CustomResourceDefinitions open, filled to the last field, with an owner of it all, and come back equal; {texts} values stood as texts")
 
+    def test_each_kind_of_openshifts_own_server(self):
+        tried = 0
+        for label, documents, names in real_kinds.of_openshifts_server():
+            tried += 1
+            with self.subTest(kind=label):
+                schema = schemas.found(documents, label, names)
+                self.round_trip(documents, names, schema.root, schema.definitions)
+        self.assertGreater(tried, 30)
+        said(f"{tried} kinds of OpenShift's own server do so too")
+
     def test_each_kind_of_openapi_documents_with_a_filled_object_and_its_owner(self):
         tried = 0
         for path in (*real_kinds.OPENAPI, real_kinds.SWAGGER):
