@@ -16,6 +16,7 @@ class Along:
         self.way = way  # as people read it
         self.schema_way = schema_way  # the same with `[]` for any item and `.*` for any entry
         self.is_whole = is_whole  # an item that a server takes as one
+        self._items = None  # of a list whose items were asked for: each by the compact text of its keys, or of itself
 
     @property
     def is_nobodys(self):
@@ -45,9 +46,7 @@ class Along:
     def step(self, text):
         """The place under an element; None where the schema hasn't it, or it isn't there."""
         found = self._step(text) if self.knows(text) else None
-        if found is not None:
-            found.texts = (*self.texts, found.own_text or text)
-        return found
+        return found and found.at_text(self, text)
 
     def _step(self, text):
         letter, said = read(text)
@@ -56,18 +55,30 @@ class Along:
         if not isinstance(self.value, list):
             return None
         if letter == "v":
-            there = any(compact(item) == compact(said) for item in self.value)
-            return self._below(said, value_text(self.place, said), "v:" + compact(said)) if there else None
+            return self._item(said) if compact(said) in self._known_items() else None
         keys = {name: said.get(name, self.place.fill.get(name)) for name in self.place.keys}
         if any(value is None for value in keys.values()) or set(said) - set(keys):
             return None
-        item = item_at(self.place, self.value, keys)
-        return None if item is None else self._below(item, key_text(self.place, keys), "k:" + compact(keys))
+        item = self._known_items().get(compact(keys))
+        return None if item is None else self._item(item, keys)
 
-    def _below(self, item, bench_text, text):
-        whole = self.place.whole_items
-        path, way = (*self.path, bench_text), self.way_of(text)
-        return Along(self.place.item, item, path, way, f"{self.schema_way}[]", whole, text)
+    def _known_items(self):
+        """The items of a list by what they are known by; of equal ones the first."""
+        if self._items is None:
+            self._items = {}
+            for item in self.value:
+                known = item if self.place.kind == "set" else named_keys(self.place, item) if isinstance(item, dict) else None
+                if known is not None:
+                    self._items.setdefault(compact(known), item)
+        return self._items
+
+    def _item(self, item, keys=None):
+        """The place of an item of a map list, known by its keys, or of a set."""
+        text = "v:" + compact(item) if keys is None else "k:" + compact(keys)
+        bench_text = value_text(self.place, item) if keys is None else key_text(self.place, keys)
+        parts = [f"={compact(item)}"] if keys is None else [f"{name}={compact(value)}" for name, value in sorted(keys.items())]
+        way = f"{self.way}[{','.join(parts)}]"
+        return Along(self.place.item, item, (*self.path, bench_text), way, f"{self.schema_way}[]", self.place.whole_items, text)
 
     def _field(self, name):
         if not isinstance(self.value, dict) or name not in self.value:
@@ -86,16 +97,21 @@ class Along:
         """The places below that stand there: fields, entries and items; none of a place that is owned as one."""
         if self.place.is_leaf or self.is_whole:
             return []
+        found = []
         if isinstance(self.value, dict):
-            texts = [f"f:{name}" for name in self.value]
+            named = ((f"f:{name}", self._field(name)) for name in self.value if self.place.child(name)[0] is not None)
+            found = [here.at_text(self, text) for text, here in named if here is not None]
         elif self.place.kind == "set" and isinstance(self.value, list):
-            texts = ["v:" + compact(item) for item in self.value]
-        elif isinstance(self.value, list):
-            texts = ["k:" + compact(named_keys(self.place, item)) for item in self.value]
-        else:
-            texts = []
-        steps = (self.step(text) for text in texts)
-        return [child for child in steps if child is not None and child.value is not None]
+            found = [self._item(item).at_text(self) for item in self.value]
+        elif self.place.kind == "map" and isinstance(self.value, list):
+            named = ((item, named_keys(self.place, item)) for item in self.value if isinstance(item, dict))
+            found = [self._item(item, keys).at_text(self) for item, keys in named if keys is not None]
+        return [child for child in found if child.value is not None]
+
+    def at_text(self, above, text=None):
+        """This place with its path, which ends at an element's text, or at the place's own."""
+        self.texts = (*above.texts, self.own_text or text)
+        return self
 
     def all_paths(self):
         """The path of the place, and of each field of it that is there."""
@@ -104,32 +120,31 @@ class Along:
         return [self.path, *(self._field(name).path for name in there)]
 
 
-def item_at(place, items, keys):
-    """The item of a map list that has these keys; None where there is none."""
-    wanted = compact(keys)
-    for item in items:
-        named = named_keys(place, item) if isinstance(item, dict) else None
-        if named is not None and compact(named) == wanted:
-            return item
-    return None
+class Finder:
+    """Finds places of an object by their paths as servers write them, each step of a path taken once."""
 
+    def __init__(self, root, value):
+        self.whole = value
+        self._found = {(): Along(root, value)}
 
-def _at(root, value, texts):
-    here = Along(root, value)
-    for text in texts:
-        here = here.step(text)
-        if here is None:
-            return None
-    return here
+    def at(self, texts):
+        """The place at a path; None where nothing stands there."""
+        if texts not in self._found:
+            above = self.at(texts[:-1])
+            self._found[texts] = above and above.step(texts[-1])
+        return self._found[texts]
+
+    def value(self, texts):
+        here = self.at(texts)
+        return here and here.value
 
 
 def value_at(root, value, texts):
     """What stands in an object at a path as servers write it; None where nothing does."""
-    here = _at(root, value, texts)
-    return here and here.value
+    return Finder(root, value).value(tuple(texts))
 
 
 def place_at(root, value, texts):
     """The place of a path that stands in an object; None where nothing does."""
-    here = _at(root, value, texts)
+    here = Finder(root, value).at(tuple(texts))
     return here and here.place

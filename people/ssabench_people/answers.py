@@ -3,13 +3,17 @@ import json
 
 from .along import place_at, value_at
 from .documents import compact, to_yaml
-from .elements import told_paths
-from .fields import said_paths
+from .elements import told_paths, way_of
 from .migration import client_side_appliers
 from .report import line
+from .terminal import say
 from .turning import PART_BY_PART
 
 MOST_LINES = 20
+WAYS_OUT = (
+    "apply again with --force-conflicts to take these fields over, without them to leave them to their managers, "
+    "or with their live values to own them together"
+)
 SAID = {
     2: "a null",
     3: "a number that is no whole one of 64 bits",
@@ -42,11 +46,8 @@ def turned_reply(root, reply):
     return turned
 
 
-def print_json(value):
-    print(json.dumps(value, ensure_ascii=False, indent=2, sort_keys=True))
-
-
-def print_object(value, form):
+def print_value(value, form):
+    """Prints a value as JSON or YAML."""
     print(json.dumps(value, ensure_ascii=False, indent=2, sort_keys=True) if form == "json" else to_yaml(value).rstrip("\n"))
 
 
@@ -62,23 +63,44 @@ def who(owner):
     return f"{owner['manager']} ({owner['operation']}{part})"
 
 
-def owned_below(live, texts):
-    """Each entry that owns something below a path, with how many paths."""
-    found = []
-    for entry in live["metadata"].get("managedFields") or []:
-        paths = said_paths(entry["fieldsV1"])
-        count = sum(1 for path in paths if path[: len(texts)] == texts and len(path) > len(texts))
-        if count:
-            found.append((entry, count))
-    return found
-
-
 def print_change(root, name, done, reply):
     """What a command changed, a line a field."""
-    print(f"{name} {done}")
+    say(f"{name} {done}")
     for part in ("added", "modified", "removed"):
         for _, way in told_paths(root, reply[part]):
-            print(f"  {part:<9}{way}")
+            say("  ", (f"{part:<8} ", part), way)
+
+
+def change_parts(change):
+    """A change as the parts of a line."""
+    what = change["what"]
+    parts = [(f"{what:<8} ", what), change["way"]]
+    if what == "modified":
+        parts.append(f": {shown_value(change['from'])} -> {shown_value(change['to'])}")
+    elif what in ("added", "removed"):
+        parts.append(f": {shown_value(change['to' if what == 'added' else 'from'])}")
+    elif what == "reordered":
+        parts.append(f": {', '.join(way_of((item,)) for item in change['items'])}")
+    for name, words in (("with", "with"), ("takenFrom", "taken from")):
+        if change.get(name):
+            parts += [f", {words} ", owner_part(change[name])]
+    if change.get("goes"):
+        parts.append(f": {shown_value(change['from'])}, goes")
+    elif what == "given up":
+        parts += [": stays for " if change["keptBy"] else ", stays, owned by ", owner_part(change["keptBy"])]
+    if what == "claimed" and not change.get("takenFrom"):
+        parts += [", owned by ", owner_part([]), " before"]
+    return parts
+
+
+def owner_part(owners):
+    """Owners, or nobody, as a part of a line."""
+    return (", ".join(who(owner) for owner in owners), "owner") if owners else ("nobody", "nobody")
+
+
+def shown_change(change):
+    """A change as it stands in JSON."""
+    return {name: part for name, part in change.items() if name != "way"}
 
 
 def said(reply):
@@ -112,14 +134,11 @@ def tell_conflicts(root, conflicts, live, manifest, applier):
             line(f"{way} is {PART_BY_PART}: there only what differs in both can conflict")
     if len(fields) > MOST_LINES:
         line(f"and {len(fields) - MOST_LINES} fields more")
-    _tell_client_side(conflicts, live, applier)
-    line(
-        "apply again with --force-conflicts to take these fields over, without them to leave them to their managers, "
-        "or with their live values to own them together"
-    )
+    tell_client_side(conflicts, live, applier)
+    line(WAYS_OUT)
 
 
-def _tell_client_side(conflicts, live, applier):
+def tell_client_side(conflicts, live, applier):
     """What a server does with who wrote by client-side apply."""
     writers = client_side_appliers(live["metadata"].get("managedFields") or [])
     for conflict in conflicts:

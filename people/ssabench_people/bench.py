@@ -46,11 +46,27 @@ class Bench:
 
     def live(self):
         """The object, with its managers' entries, as a server shows them."""
-        value = engine.asked("show", self.name, "--show-managed-fields")["object"]
+        return self.shown(engine.asked("show", self.name, "--show-managed-fields")["object"])
+
+    def shown(self, value):
+        """An object of the bench, with its managers' entries, as a server shows them."""
         shown, entries = from_bench_object(self.root, value, self.kept)
         if entries:
             shown["metadata"]["managedFields"] = [shown_entry(self.root, entry) for entry in entries]
         return shown
+
+    def reordered(self):
+        """For each command of the history, from the first to the last, the paths of the lists whose items it put in another order,
+        as the records in the bench's file tell them."""
+        try:
+            with open(self.name, encoding="utf-8") as file:
+                past = json.loads(file.readline())["past"]
+                file.readline()
+                file.readline()
+                found = [[path for path, _ in json.loads(line)["record"]["order"]] for line in file]
+        except (OSError, ValueError, KeyError, TypeError) as fault:
+            raise Refusal(f"{self.name}: not a bench's file as this program reads it", 3) from fault
+        return found[:past][::-1] + found[past:]
 
     @contextlib.contextmanager
     def copied(self):
@@ -62,6 +78,17 @@ class Bench:
                 shutil.copyfile(self.name, twin.name)
             except OSError as fault:
                 raise Refusal(f"cannot read {self.name}", 3) from fault
+            yield twin
+
+    @contextlib.contextmanager
+    def made_of(self, value):
+        """A bench apart, of the same schema, with an object of the bench and no history."""
+        with tempfile.TemporaryDirectory(prefix="ssabench-") as folder:
+            twin = copy.copy(self)
+            twin.name = os.path.join(folder, "bench")
+            status, reply, lines = make(twin.name, self.root, value, self.kept, self.written_apart)
+            if status != 0:
+                raise Refusal("; ".join(lines) or reply["name"], status)
             yield twin
 
 

@@ -4,12 +4,13 @@ import datetime
 import difflib
 
 from . import engine
-from .answers import object_name, print_change, print_json, tell_conflicts, tell_refusal, turned_reply
+from .answers import object_name, print_change, print_value, tell_conflicts, tell_refusal, turned_reply
 from .bench import Bench, with_file
 from .documents import read_documents, to_yaml
 from .objects import as_taken, identity, to_bench_object
 from .refusal import Refusal
 from .report import Report, counted, line
+from .terminal import say
 
 
 def now():
@@ -35,12 +36,12 @@ def manifests(args, live, report):
         yield value
 
 
-def carried_out(args, bench, after):
-    """Does a word with each manifest of its file, up to the first that is refused. Gives that one's status, else 0; `after` is
-    called with each manifest and its reply."""
-    live, report = bench.live(), Report()
+def turned_manifests(args, bench):
+    """Each manifest of a file as a word takes it and as the bench does, with the live object that it meets. What is not as it was
+    is told before each."""
     if args.subresource and not engine.takes_status():
         raise Refusal("the proved program takes nothing through a subresource", 2)
+    live, report = bench.live(), Report()
     keeps_status = engine.takes_status() or not bench.written_apart
     for given in list(manifests(args, live, report)):
         value = as_taken(given, live, args.does == "update", keeps_status, report)
@@ -48,26 +49,33 @@ def carried_out(args, bench, after):
         if value["metadata"].get("managedFields") is not None:
             turned["metadata"]["managedFields"] = value["metadata"]["managedFields"]
         report.tell(without=("text", "whole"))
-        report = Report()
-        words = [args.does, bench.name]
-        status, reply, lines = with_file(turned, args.file, lambda name: engine.called(*words, name, *_options(args)))
-        if args.output == "json" and reply is not None:
-            print_json(turned_reply(bench.root, reply))
+        yield value, turned, live
+        live, report = bench.live(), Report()
+
+
+def asked_with(args, bench, turned, force):
+    """What the proved program answers to a word with a manifest: the status, the reply and its lines."""
+    options = ["--at", args.at or now(), "--field-manager", args.field_manager]
+    options += ["--subresource", args.subresource] if args.subresource else []
+    options += ["--force-conflicts"] if force else []
+    return with_file(turned, args.file, lambda name: engine.called(args.does, bench.name, name, *options))
+
+
+def carried_out(args, bench, after):
+    """Does a word with each manifest of its file, up to the first that is refused. Gives that one's status, else 0; `after` is
+    called with each manifest and its reply."""
+    for value, turned, live in turned_manifests(args, bench):
+        status, reply, lines = asked_with(args, bench, turned, args.does == "apply" and args.force_conflicts)
+        if args.output in ("json", "yaml") and reply is not None:
+            print_value(turned_reply(bench.root, reply), args.output)
         if status != 0:
-            _tell_refused(bench.root, args, reply, lines, live, value)
+            tell_refused(bench.root, args, reply, lines, live, value)
             return status
         after(value, reply)
-        live = bench.live()
     return 0
 
 
-def _options(args):
-    options = ["--at", args.at or now(), "--field-manager", args.field_manager]
-    options += ["--subresource", args.subresource] if args.subresource else []
-    return options + (["--force-conflicts"] if args.does == "apply" and args.force_conflicts else [])
-
-
-def _tell_refused(root, args, reply, lines, live, value):
+def tell_refused(root, args, reply, lines, live, value):
     if reply is not None and reply["fault"] == 50:
         tell_conflicts(root, reply["conflicts"], live, value, args.field_manager)
     else:
@@ -100,6 +108,7 @@ def dry(args):
 
 def do_diff(args):
     """What an apply would change, as YAML: status 0 nothing, 1 something, 2 where it is refused, as kubectl has it."""
+    form, args.output = args.output, None
     with Bench(args.bench).copied() as bench:
         before = bench.live()
         status = carried_out(args, bench, lambda value, reply: None)
@@ -107,8 +116,11 @@ def do_diff(args):
             return max(status, 2)
         shown = [_lines(value, args.show_managed_fields) for value in (before, bench.live())]
     told = list(difflib.unified_diff(*shown, "live", "applied", lineterm=""))
+    if form:
+        print_value({"done": "diff", "lines": told}, form)
+        return 1 if told else 0
     for one in told:
-        print(one)
+        say((one, {"-": "removed", "+": "added", "@": "owner"}.get(one[0], "")))
     return 1 if told else 0
 
 
@@ -121,13 +133,14 @@ def do_plain(args):
     """Strip, undo and redo."""
     with _target(args) as bench:
         status, reply, lines = engine.called(args.does, bench.name)
+        if args.output and reply is not None:
+            print_value(turned_reply(bench.root, reply), args.output)
         if status != 0:
             tell_refusal(bench.root, args.bench, reply, lines)
-            return status
-        if args.output == "json":
-            print_json(turned_reply(bench.root, reply))
+        elif args.output:
+            pass
         elif args.does == "strip":
             print(f"stripped: nobody owns anything{dry(args)}")
         else:
             print(f"{args.does}ne: {counted(reply['past'], 'command')} can be undone, {reply['future']} redone{dry(args)}")
-        return 0
+        return status

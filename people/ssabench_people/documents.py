@@ -105,18 +105,24 @@ def _name(name):
     raise Refusal(f"{name!r} can't name a member")
 
 
+_ENCODER = json.JSONEncoder(ensure_ascii=False, separators=(",", ":"), sort_keys=True)
+
+
 def compact(value):
     """The one compact spelling of a tidy value: no spaces, members in the order of their names."""
-    return json.dumps(value, ensure_ascii=False, separators=(",", ":"), sort_keys=True)
+    return _ENCODER.encode(value)
 
 
 def _no_constant(text):
     raise ValueError(f"{text} is no number of JSON")
 
 
+_DECODER = json.JSONDecoder(parse_constant=_no_constant)
+
+
 def parse_json(text):
     """The tidy value of a JSON text. Raises ValueError."""
-    return tidy(json.loads(text, parse_constant=_no_constant))
+    return tidy(_DECODER.decode(text))
 
 
 def parse_documents(text, name):

@@ -3,8 +3,10 @@
 A path here is a list of element texts: `f:NAME`, `k:{KEYS}`, `v:VALUE`. The bench's texts have values as they stand there, as
 texts of their JSON where the schema has no one type for them.
 """
+import functools
 import json
 import re
+from typing import NamedTuple
 
 from .documents import compact, parse_json
 from .places import BENCH_METADATA, METADATA, OTHERS
@@ -12,6 +14,7 @@ from .places import BENCH_METADATA, METADATA, OTHERS
 PLAIN_NAME = re.compile(r"^[A-Za-z_(*][A-Za-z0-9_()*-]*$")
 
 
+@functools.lru_cache(maxsize=65536)
 def read(text):
     """What an element's text says: its letter, and a name, keys or a value. None where it is no element's text."""
     letter, rest = text[:2], text[2:]
@@ -39,6 +42,8 @@ def unboxed(place, value):
 
 def key_text(place, keys):
     """The bench's text of an item of a map list with these keys."""
+    if all(place.item.fields[name].kind != "json" for name in place.keys):
+        return "k:" + compact(keys)
     return "k:" + compact({name: boxed(place.item.fields[name], keys[name]) for name in place.keys})
 
 
@@ -55,24 +60,37 @@ def named_keys(place, item):
     return keys
 
 
+class RealPath(NamedTuple):
+    """A path of the bench as a server writes it, and as people read it."""
+
+    place: object
+    texts: tuple = ()
+    way: str = ""
+    among_others: bool = False  # whether the next element is an entry among a record's others
+    is_whole: bool = False  # an item that a server takes as one: what is below is it
+    is_structural: bool = True  # whether it stands for nothing that can be owned
+
+
 def real_path(root, path):
-    """A path of the bench as a server writes it: pairs of an element's text and of how people read it. It ends at an item that a
-    server takes as one. None where it stands for nothing of the object's own."""
-    place, among_others, parts = root, False, []
-    for text in path:
-        if place is root and text == "f:" + METADATA:
-            place, parts = root.fields["metadata"], [("f:metadata", ".metadata")]
-        elif not among_others and place and place.kind == "record" and place.rest and text == "f:" + OTHERS:
-            among_others = True
-        else:
-            whole = bool(place) and place.whole_items
-            place, *part = _real_element(place.rest if among_others else place, text, among_others)
-            among_others = False
-            parts.append(tuple(part))
-            if whole:
-                break
-    structural = not path or path[-1] == "f:" + OTHERS and among_others or path == ["f:" + METADATA]
-    return None if structural else parts
+    """A path of the bench as a server writes it. Each beginning is looked at once, and kept at the root."""
+    known = root.real_paths
+    if path not in known:
+        known[path] = _longer(root, real_path(root, path[:-1]), path[-1]) if path else RealPath(root)
+    return known[path]
+
+
+def _longer(root, above, text):
+    place = above.place
+    if above.is_whole:
+        return above
+    if place is root and not above.among_others and text == "f:" + METADATA:
+        return RealPath(root.fields["metadata"], ("f:metadata",), ".metadata")
+    if not above.among_others and place and place.kind == "record" and place.rest and text == "f:" + OTHERS:
+        return above._replace(among_others=True, is_structural=True)
+    whole = bool(place) and place.whole_items
+    place, text, way = _real_element(place.rest if above.among_others else place, text, above.among_others)
+    texts = (*above.texts, text)
+    return RealPath(place, texts, above.way + way, is_whole=whole, is_structural=texts == ("f:metadata",))
 
 
 def _real_element(place, text, is_entry):
@@ -89,22 +107,23 @@ def _real_element(place, text, is_entry):
     return place and place.item, "v:" + compact(value), f"[={compact(value)}]"
 
 
+def way_of(texts):
+    """The way that people read, of a path as servers write it."""
+    return "".join(_real_element(None, text, False)[2] for text in texts)
+
+
 def way_of_name(name):
     return f".{name}" if PLAIN_NAME.match(name) else f"[{compact(name)}]"
 
 
 def told_paths(root, paths):
     """Paths of the bench as pairs: the list of texts as a server writes them, and the way as people read it; each once."""
-    told, seen = [], set()
+    told = {}
     for path in paths:
-        parts = real_path(root, list(path))
-        if parts is None:
-            continue
-        texts = [text for text, _ in parts]
-        if compact(texts) not in seen:
-            seen.add(compact(texts))
-            told.append((texts, "".join(way for _, way in parts)))
-    return told
+        real = real_path(root, tuple(path))
+        if not real.is_structural:
+            told.setdefault(real.texts, real.way)
+    return [(list(texts), way) for texts, way in told.items()]
 
 
 def bench_first(name):

@@ -42,6 +42,16 @@ def asked(*words):
     return reply
 
 
+def in_session(bench, commands):
+    """The replies to the commands of a session on a bench, one each; a refusal is among them as it is."""
+    lines = "".join(json.dumps(command, ensure_ascii=False) + "\n" for command in commands)
+    ran = subprocess.run([program(), "session", bench], input=lines, capture_output=True, text=True, encoding="utf-8", check=False)
+    replies = [json.loads(line) for line in ran.stdout.splitlines()]
+    if ran.returncode != 0 or len(replies) != len(commands):
+        raise Refusal(ran.stderr.strip() or f"ssabench ended with status {ran.returncode}", ran.returncode or 3)
+    return replies
+
+
 @functools.cache
 def takes_status():
     """Whether the program takes what is written through the subresource `status`."""

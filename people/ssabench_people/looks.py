@@ -1,11 +1,13 @@
-"""The words that look at a bench."""
+"""The words that look at a bench: the object, and who owns what. `logs` has the one that tells the history."""
 from . import engine
 from .along import Along
-from .answers import object_name, owned_below, print_json, print_object, shown_value, who
+from .answers import object_name, owner_part, print_value, shown_value, who
 from .bench import Bench
+from .changes import sets
 from .documents import compact
-from .fields import said_paths
+from .elements import way_of
 from .report import counted
+from .terminal import say, table
 from .ways import followed
 
 
@@ -16,7 +18,7 @@ def do_show(args):
         return 0
     if not args.show_managed_fields:
         shown["metadata"].pop("managedFields", None)
-    print_object(shown, args.output or "yaml")
+    print_value(shown, args.output or "yaml")
     return 0
 
 
@@ -27,65 +29,81 @@ def do_owners(args):
         return _all_owners(bench, live, args)
     here = followed(bench.root, live, args.path)
     owners = [] if here.is_nobodys else engine.asked("owners", args.bench, compact(here.path))["owners"]
-    if args.output == "json":
-        print_json({"done": "owners", "owners": owners})
+    below = _owned_below(live, here.texts)
+    if args.output:
+        counts = [{"owner": owner, "fields": count} for owner, count in below]
+        print_value({"done": "owners", "path": list(here.texts), "owners": owners} | ({"below": counts} if below else {}), args.output)
         return 0
     for owner in owners:
-        print(who(owner))
-    below = owned_below(live, here.texts)
+        say((who(owner), "owner"))
     for owner, count in below:
-        print(f"{who(owner)}: {counted(count, 'field')} below")
+        say((who(owner), "owner"), f": {counted(count, 'field')} below")
     if not owners and not below:
-        print("nobody")
+        say(("nobody", "nobody"))
     return 0
+
+
+def _owned_below(live, texts):
+    """Each owner of something below a path, with how many places."""
+    counts = [(owner, sum(1 for path in paths if path[: len(texts)] == texts and len(path) > len(texts))) for owner, paths in sets(live)]
+    return [(owner, count) for owner, count in counts if count]
+
+
+class Row:
+    """A line of the tree: a place, what is below it, and who owns it."""
+
+    def __init__(self, here, depth, owned):
+        self.here = here
+        self.depth = depth
+        self.owners = [owner for owner, paths in owned if here.texts in paths]
+        self.below = here.children()
+
+    @property
+    def is_leaf(self):
+        return not self.below
+
+    def is_of(self, manager):
+        return any(owner["manager"] == manager for owner in self.owners)
+
+
+def _rows(here, depth, owned):
+    row = Row(here, depth, owned)
+    if not here.is_nobodys or row.below:
+        yield row
+    for child in row.below:
+        yield from _rows(child, depth + 1, owned)
 
 
 def _all_owners(bench, live, args):
-    """A line for each field: its way, its value and who owns it, in the order of the object."""
-    entries = [(entry, set(said_paths(entry["fieldsV1"]))) for entry in live["metadata"].get("managedFields") or []]
-    rows = []
-    for here in _fields(Along(bench.root, live)):
-        owners = [entry for entry, paths in entries if here.texts in paths]
-        if args.manager is None or any(owner["manager"] == args.manager for owner in owners):
-            rows.append((here, owners))
-    if args.output == "json":
-        names = ("manager", "operation", "subresource")
-        told = [
-            {
-                "path": list(here.texts),
-                "value": here.value,
-                "owners": [{name: owner[name] for name in names if name in owner} for owner in owners],
-            }
-            for here, owners in rows
-        ]
-        print_json({"done": "owners", "fields": told})
-        return 0
-    widths = [max((len(text) for text in texts), default=0) for texts in zip(*((h.way, shown_value(h.value)) for h, _ in rows))]
-    for here, owners in rows:
-        by = ", ".join(who(owner) for owner in owners) or "nobody"
-        print(f"{here.way:<{widths[0]}}  {shown_value(here.value):<{widths[1]}}  {by}")
+    """The object as a tree, or each field by its way: its value, and who owns it."""
+    rows = list(_rows(Along(bench.root, live), -1, sets(live)))[1:]
+    if args.manager is not None:
+        rows = _of_manager(rows, args.manager)
+    told = [row for row in rows if (row.is_leaf or row.owners) and (args.manager is None or row.is_of(args.manager))]
+    if args.output:
+        print_value({"done": "owners", "fields": [_told(row) for row in told]}, args.output)
+    elif args.ways:
+        table([(row.here.way, *_cells(row)) for row in told])
+    else:
+        table([("  " * row.depth + way_of(row.here.texts[-1:]).removeprefix("."), *_cells(row)) for row in rows])
     return 0
 
 
-def _fields(here):
-    """The places of an object that have nothing below them, or are owned as one."""
-    below = here.children()
-    if not below and not here.is_nobodys:
-        yield here
-    for child in below:
-        yield from _fields(child)
+def _of_manager(rows, manager):
+    """The rows that a manager owns, and those above them."""
+    kept, depth = [], 0
+    for row in reversed(rows):
+        if row.is_of(manager) or row.depth < depth:
+            kept.append(row)
+            depth = row.depth
+    return kept[::-1]
 
 
-def do_log(args):
-    Bench(args.bench)
-    reply = engine.asked("log", args.bench)
-    if args.output == "json":
-        print_json(reply)
-        return 0
-    for part, mark in (("past", ""), ("future", " (undone)")):
-        for label in reply[part]:
-            by = f" by {label['manager']}" if "manager" in label else ""
-            by += f" through {label['subresource']}" if "subresource" in label else ""
-            forced = ", by force" if label.get("force") else ""
-            print(f"{label.get('at', '')} {label['do']}{by}{forced}{mark}".lstrip())
-    return 0
+def _told(row):
+    value = {"value": row.here.value} if row.is_leaf else {}
+    return {"path": list(row.here.texts), "owners": row.owners} | value
+
+
+def _cells(row):
+    value = shown_value(row.here.value) if row.is_leaf else ""
+    return value, (owner_part(row.owners) if row.owners or row.is_leaf else "")

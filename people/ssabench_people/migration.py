@@ -23,7 +23,7 @@ def client_side_appliers(entries):
 def migrated(entries, applier, report):
     """The entries after the migration to `applier`."""
     for name in client_side_appliers(entries):
-        entries = _one_migrated(entries, name, applier)
+        entries = one_migrated(entries, name, applier)
         report.add(f"entry of {name} (Update)", f"client-side apply: now {applier}'s (Apply), joined with what it owned", "moved")
     return entries
 
@@ -36,7 +36,8 @@ def _first(entries, fits):
     return next((index for index, entry in enumerate(entries) if fits(entry)), None)
 
 
-def _one_migrated(entries, name, applier):
+def one_migrated(entries, name, applier):
+    """The entries after the migration of one manager."""
     entries = [dict(entry) if isinstance(entry, dict) else entry for entry in entries]
     place = _first(entries, lambda entry: _is(entry, applier, "Apply"))
     if place is None:

@@ -2,7 +2,7 @@
 import os
 
 from . import engine
-from .answers import object_name, tell_refusal
+from .answers import object_name, print_value, tell_refusal
 from .bench import make
 from .documents import read_documents
 from .migration import migrated
@@ -60,5 +60,8 @@ def do_open(args):
     if status != 0:
         tell_refusal(root, args.file, reply, lines)
         return status
+    if args.output:
+        print_value({"done": "open", "object": object_name(value)} | {name: reply[name] for name in ("managers", "paths")}, args.output)
+        return 0
     print(f"{object_name(value)} opened: {counted(reply['managers'], 'manager')}, {counted(reply['paths'], 'path')}")
     return 0

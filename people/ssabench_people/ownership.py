@@ -4,6 +4,8 @@ Each owned path is taken to the place that stands for it on the bench. A path be
 place; a path of an item that a server takes as one brings all that is below the item. What can't be taken is told, and is a loss,
 but for a path whose value is a null.
 """
+import json
+
 from .along import Along
 from .documents import compact
 from .elements import real_path
@@ -127,12 +129,11 @@ def _is_entry(entry):
 
 def shown_entry(root, entry):
     """An entry of the bench as a server shows it."""
-    paths = []
-    for path in said_paths(entry["fieldsV1"]):
-        parts = real_path(root, list(path))
-        if parts is not None:
-            paths.append(tuple(text for text, _ in parts))
-    shown = {**entry, "fieldsV1": written(paths)}
+    text = json.dumps(entry["fieldsV1"])
+    if text not in root.real_sets:
+        found = (real_path(root, path) for path in said_paths(entry["fieldsV1"]))
+        root.real_sets[text] = written([real.texts for real in found if not real.is_structural])
+    shown = {**entry, "fieldsV1": root.real_sets[text]}
     if shown["time"] == NO_TIME:
         del shown["time"]
     return shown

@@ -38,6 +38,8 @@ class Place:
     fill: dict = field(default_factory=dict)  # of a map list: the defaults of keys
     whole: bool = False  # of a record or map of one kind: atomic
     whole_items: bool = False  # of a map list: a server takes its items as atomic
+    real_paths: dict = field(default_factory=dict, compare=False, repr=False)  # of a root: what `real_path` found
+    real_sets: dict = field(default_factory=dict, compare=False, repr=False)  # of a root: sets that were turned, by their texts
 
     @property
     def is_leaf(self):

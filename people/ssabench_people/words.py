@@ -1,27 +1,28 @@
-"""The words: what each takes. What they do stands in `opening`, `commands` and `looks`."""
+"""The words: what each takes, and by which module and function it is done, which is loaded when the word is given."""
 import argparse
+import importlib
 import os
 import sys
 
-from .commands import do_command, do_diff, do_plain
-from .looks import do_log, do_owners, do_show
-from .opening import do_open
 from .refusal import Refusal
 from .report import line
 
 STATUSES = "statuses: 0 done; 1 refused, or something would be lost; 2 other words; 3 a file, or the proved program"
 FILE = "the manifest, in YAML or JSON; - is standard input"
+FORMS = ("json", "yaml")
 EXAMPLES = {
     "open": "open --schema apps.json -f live.yaml web.bench",
     "apply": "apply -f manifest.yaml --field-manager autoscaler --dry-run web.bench",
     "update": "update -f edited.yaml --field-manager kubectl-edit web.bench",
     "diff": "diff -f manifest.yaml --field-manager team web.bench",
+    "explain": "explain -f manifest.yaml --field-manager team web.bench",
     "strip": "strip web.bench",
     "undo": "undo web.bench",
     "redo": "redo web.bench",
     "show": "show --show-managed-fields -o yaml web.bench",
     "owners": "owners web.bench .spec.template.spec.containers[name=nginx].image",
-    "log": "log web.bench",
+    "view": "view -f manifest.yaml --field-manager team web.bench > web.html",
+    "log": "log --path .spec.replicas web.bench",
 }
 
 
@@ -29,12 +30,14 @@ class Words:
     """The words, added one after the other."""
 
     def __init__(self):
-        self.top = argparse.ArgumentParser(prog="kubectl-ssabench", description="A workbench for Server-Side Apply.", epilog=STATUSES)
+        told = "A workbench for Server-Side Apply."
+        self.top = argparse.ArgumentParser(prog="kubectl-ssabench", description=told, epilog=STATUSES, allow_abbrev=False)
         self.words = self.top.add_subparsers(dest="word", required=True, metavar="WORD")
 
     def add(self, name, told, do, forms=(), aliases=(), statuses=STATUSES):
         example = f"example: kubectl-ssabench {EXAMPLES[name]}"
-        word = self.words.add_parser(name, help=told, description=told, epilog=f"{example} | {statuses}", aliases=aliases)
+        ends = f"{example} | {statuses}"
+        word = self.words.add_parser(name, help=told, description=told, epilog=ends, aliases=aliases, allow_abbrev=False)
         word.set_defaults(do=do, does=name, output=None, dry_run=None)
         word.add_argument("bench", metavar="BENCH", help="the bench's file")
         if forms:
@@ -57,34 +60,47 @@ def dry_run(word):
 def parser():
     words = Words()
     _add_open(words)
-    apply = words.add_of_file("apply", "A manager applies a manifest.", do_command, "kubectl", ("json", "name"))
-    diff = words.add_of_file(
-        "diff", "What an apply would change.", do_diff, "kubectl", statuses="statuses: 0 nothing; 1 something; 2 and 3 refused"
-    )
+    apply = words.add_of_file("apply", "A manager applies a manifest.", "commands.do_command", "kubectl", (*FORMS, "name"))
+    statuses = "statuses: 0 nothing; 1 something; 2 and 3 refused"
+    diff = words.add_of_file("diff", "What an apply would change.", "commands.do_diff", "kubectl", FORMS, statuses=statuses)
     diff.add_argument("--show-managed-fields", action="store_true", help="with the managers' entries")
-    for word in (apply, diff):
+    told = "What an apply would do, field by field, and what a server would do otherwise."
+    explain = words.add_of_file("explain", told, "explain.do_explain", "kubectl", FORMS)
+    explain.add_argument("--migrate", action="store_true", help="as after kubectl's migration from client-side apply")
+    for word in (apply, diff, explain):
         word.set_defaults(does="apply")
         word.add_argument("--force-conflicts", action="store_true", help="take the fields that others own")
         word.add_argument("--server-side", action="store_true", help="as kubectl's; nothing else is done here")
     dry_run(apply)
     update = words.add_of_file(
-        "update", "A manager replaces the object.", do_command, "kubectl-replace", ("json", "name"), aliases=("replace",)
+        "update", "A manager replaces the object.", "commands.do_command", "kubectl-replace", (*FORMS, "name"), aliases=("replace",)
     )
     dry_run(update)
-    dry_run(words.add("strip", "Forget all managers.", do_plain, ("json",)))
-    words.add("undo", "Go back over a command.", do_plain, ("json",))
-    words.add("redo", "Go on over an undone command.", do_plain, ("json",))
-    show = words.add("show", "The object.", do_show, ("yaml", "json", "name"))
+    dry_run(words.add("strip", "Forget all managers.", "commands.do_plain", FORMS))
+    words.add("undo", "Go back over a command.", "commands.do_plain", FORMS)
+    words.add("redo", "Go on over an undone command.", "commands.do_plain", FORMS)
+    show = words.add("show", "The object.", "looks.do_show", (*FORMS, "name"))
     show.add_argument("--show-managed-fields", action="store_true", help="with its managers' entries")
-    owners = words.add("owners", "Who owns a field, or each.", do_owners, ("json",))
+    owners = words.add("owners", "Who owns a field, or each.", "looks.do_owners", FORMS)
     owners.add_argument("path", nargs="?", metavar="PATH", help="the way to the field; all fields, where none is given")
+    owners.add_argument("--ways", action="store_true", help="each field by its whole way, in place of a tree")
     owners.add_argument("--manager", metavar="NAME", help="of all fields those that a manager owns")
-    words.add("log", "The commands of the history.", do_log, ("json",))
+    log = words.add("log", "What each command of the history did.", "logs.do_log", FORMS)
+    log.add_argument("--path", metavar="PATH", help="who changed this field, when, from what to what")
+    log.add_argument("--fights", action="store_true", help="the fields that two managers took from each other")
+    _add_view(words)
     return words.top
 
 
+def _add_view(words):
+    view = words.add("view", "A page of the object, who owns what, and the history, as HTML.", "view.do_view")
+    view.add_argument("-f", "--filename", dest="file", metavar="FILE", help="a manifest that is explained beside the object")
+    view.add_argument("--field-manager", default="kubectl", metavar="NAME", help="who would apply it (kubectl)")
+    view.set_defaults(does="apply", subresource=None, at=None, force_conflicts=False, migrate=False)
+
+
 def _add_open(words):
-    word = words.add("open", "Make a bench of a schema and an object.", do_open)
+    word = words.add("open", "Make a bench of a schema and an object.", "opening.do_open", FORMS)
     schema = "a CustomResourceDefinition or an OpenAPI document, in YAML or JSON; - is standard input"
     word.add_argument("--schema", action="append", required=True, metavar="FILE", help=schema)
     word.add_argument("--kind", help="the kind, where it isn't the object's")
@@ -102,7 +118,8 @@ def main(words):
         words = [*words[1:2], "--help"]
     args = parser().parse_args(["--dry-run=server" if word == "--dry-run" else word for word in words])
     try:
-        return args.do(args)
+        module, name = args.do.split(".")
+        return getattr(importlib.import_module(f".{module}", __package__), name)(args)
     except Refusal as refusal:
         line(refusal.sentence)
         return refusal.status

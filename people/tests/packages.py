@@ -16,8 +16,18 @@ NAMES = (
     "golang-k8s-sigs-structured-merge-diff-dev",
     "ceph-mgr-rook",
 )
+MORE = (
+    "golang-k8s-apiextensions-apiserver-dev",
+    "golang-k8s-apimachinery-dev",
+    "golang-github-openshift-api-dev",
+    "golang-github-cue-lang-cue-dev",
+)
 SUITES = ("trixie", "sid")
-PROBE = "usr/share/gocode/src/k8s.io/api/testdata/HEAD"
+GROUPS = (  # packages that are fetched together, of which suites (None: the machine's own), and a file of theirs
+    (NAMES, (None, *SUITES), "usr/share/gocode/src/k8s.io/api/testdata/HEAD"),
+    (MORE, (None, *SUITES), "usr/share/gocode/src/github.com/openshift/api/config/v1"),
+    (("python3-magnum",), ("bookworm",), "usr/lib/python3/dist-packages/magnum/drivers"),
+)
 
 
 class NotHere(Exception):
@@ -34,13 +44,16 @@ def folder():
 def root():
     """The folder that has the packages' `usr`."""
     for there in (folder(), "/"):
-        if os.path.isdir(os.path.join(there, PROBE)):
+        if all(os.path.isdir(os.path.join(there, probe)) for _, _, probe in GROUPS):
             return there
-    sentence = "real kinds were not tried: " + ", ".join(NAMES) + " can't be had by apt-get download"
+    missing = [group for group in GROUPS if not os.path.isdir(os.path.join(folder(), group[2]))]
+    names = ", ".join(name for names, _, _ in missing for name in names)
+    sentence = f"real kinds were not tried: {names} can't be had by apt-get download"
     if os.environ.get("SSABENCH_NO_PACKAGES"):
         raise NotHere(sentence + " (SSABENCH_NO_PACKAGES is set)")
     try:
-        _fetch(folder())
+        for names, suites, _ in missing:
+            _fetch(folder(), names, suites=suites)
     except (OSError, subprocess.SubprocessError) as fault:
         raise NotHere(f"{sentence} ({fault})") from fault
     return folder()
@@ -54,12 +67,12 @@ def _apt(place, *words, cwd=None):
     return ran.stdout
 
 
-def _fetch(target, names=NAMES, with_needed=()):
+def _fetch(target, names=NAMES, with_needed=(), suites=(None, *SUITES)):
     """Downloads packages, by the machine's own lists, else by lists of a later suite kept apart, and unpacks them. Of
     `with_needed` the Go packages that they stand on come along."""
     os.makedirs(target, exist_ok=True)
     with tempfile.TemporaryDirectory(prefix="ssabench-apt-") as place:
-        for suite in (None, *SUITES):
+        for suite in suites:
             lists = place if suite else None
             try:
                 if suite:

@@ -7,6 +7,7 @@ import re
 import sys
 
 import beside  # noqa: F401
+import go_types
 from packages import gocode, root
 from ssabench_people.documents import parse_documents
 
@@ -47,14 +48,91 @@ def definitions():
             yield f"Config Connector {names['kind']}", documents, names
     yield from _of_files()
     yield from _of_rook()
+    yield from _of_calico()
+    yield from _of_cue()
+    yield from _of_openshift()
 
 
 def _of_files():
-    for path in ("k8s.io/kubectl/testdata/apply/applysets-crd.yaml", "sigs.k8s.io/structured-merge-diff/internal/testdata/prometheus-crd.yaml"):
-        (document,) = read(gocode(path))
-        spec = document["spec"]
-        version = spec["versions"][0]["name"] if "versions" in spec else spec["version"]
-        yield spec["names"]["kind"], [document], {"group": spec["group"], "version": version, "kind": spec["names"]["kind"]}
+    for path in (
+        "k8s.io/kubectl/testdata/apply/applysets-crd.yaml",
+        "sigs.k8s.io/structured-merge-diff/internal/testdata/prometheus-crd.yaml",
+        "k8s.io/apiextensions-apiserver/pkg/test/example/apiexports_crd.yaml",
+    ):
+        yield _defined("", read(gocode(path))[0])
+
+
+def _defined(label, document):
+    """A definition with its first version."""
+    spec = document["spec"]
+    version = spec["versions"][0]["name"] if "versions" in spec else spec["version"]
+    names = {"group": spec["group"], "version": version, "kind": spec["names"]["kind"]}
+    return f"{label} {names['kind']}".lstrip(), [document], names
+
+
+def _is_definition(document):
+    return isinstance(document, dict) and document.get("kind") == "CustomResourceDefinition"
+
+
+def _of_calico():
+    """Calico's definitions of two releases, out of the scripts by which OpenStack's Magnum writes them to a file."""
+    folder = os.path.join(root(), "usr/lib/python3/dist-packages/magnum/drivers/common/templates/kubernetes/fragments")
+    for path in sorted(glob.glob(f"{folder}/calico-service*.sh")):
+        with open(path, encoding="utf-8") as file:
+            for written in re.findall(r"<< EOF > .*?\n(.*?)^EOF$", file.read(), re.MULTILINE | re.DOTALL):
+                parts = [re.sub(r"\\([$`\\])", r"\1", part) for part in re.split(r"^---.*$", written, flags=re.MULTILINE)]
+                texts = [part for part in parts if "kind: CustomResourceDefinition" in part]
+                for document in (one for text in texts for one in parse_documents(text, path) if _is_definition(one)):
+                    yield _defined(f"Calico ({os.path.basename(path)})", document)
+
+
+def _of_cue():
+    """The definitions in the tests of CUE, but for those that a server refuses for their references."""
+    for path in sorted(glob.glob(gocode("cuelang.org/go/**/*crd*.txtar"), recursive=True)):
+        with open(path, encoding="utf-8") as file:
+            parts = re.split(r"^-- (\S+) --$", file.read(), flags=re.MULTILINE)
+        for name, text in zip(parts[1::2], parts[2::2]):
+            if name.endswith((".yaml", ".yml", ".json")) and "CustomResourceDefinition" in text and "$ref" not in text and "errors" not in path:
+                for document in filter(_is_definition, parse_documents(text, path)):
+                    yield _defined(f"CUE ({os.path.basename(path)})", document)
+
+
+OPENSHIFT = {  # of OpenShift's kinds those that its clusters have as definitions; None: all of the group
+    "config/v1": None,
+    "operator/v1": None,
+    "network/v1": None,
+    "quota/v1": ("ClusterResourceQuota",),
+    "security/v1": ("SecurityContextConstraints",),
+    "authorization/v1": ("RoleBindingRestriction",),
+    "servicecertsigner/v1alpha1": None,
+}
+
+
+OPENSHIFT_SERVER = ("apps/v1", "authorization/v1", "build/v1", "image/v1", "oauth/v1", "project/v1", "quota/v1", "route/v1", "security/v1", "template/v1", "user/v1")  # fmt: skip
+
+
+def _openshift(packages):
+    """The kinds of packages of OpenShift's API, made again of its Go types; each with its package's name."""
+    chosen = {f"github.com/openshift/api/{name}": name for name in packages}
+    for names, name, sources in go_types.kinds(gocode(), list(chosen)):
+        package = next(chosen[one] for one in chosen if name.startswith(one.replace("/", ".") + "."))
+        nodes = {full.replace("/", "."): node for full, node in sources.definitions.items()}
+        nodes[name] = {**nodes[name], "x-kubernetes-group-version-kind": [names]}
+        yield package, f"OpenShift {names['kind']}", [{"openapi": "3.0.0", "components": {"schemas": nodes}}], names
+
+
+def _of_openshift():
+    """The kinds that OpenShift's clusters have as definitions."""
+    for package, label, documents, names in _openshift(OPENSHIFT):
+        if names["kind"] != "MyOperatorResource" and names["kind"] in (OPENSHIFT[package] or (names["kind"],)):
+            yield label, documents, names
+
+
+def of_openshifts_server():
+    """The kinds that a server of OpenShift's own has."""
+    for package, label, documents, names in _openshift(OPENSHIFT_SERVER):
+        if names["kind"] not in OPENSHIFT.get(package, ()):
+            yield label, documents, names
 
 
 def _of_rook():

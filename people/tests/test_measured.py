@@ -5,6 +5,7 @@ counted is printed at the end of each, on standard error.
 """
 import io
 import os
+import re
 import shutil
 import subprocess
 import sys
@@ -15,9 +16,12 @@ import beside  # noqa: F401
 import merge_schema
 import packages
 import real_kinds
+import yaml
 from filled import Filler
 from ssabench_people import bench, schemas
 from ssabench_people.documents import compact, parse_documents
+from ssabench_people.fields import said_paths
+from ssabench_people.migration import one_migrated
 from ssabench_people.objects import to_bench_object
 from ssabench_people.ownership import Turning
 from ssabench_people.places import root_of
@@ -127,8 +131,19 @@ class Measured(unittest.TestCase):
                 schema = schemas.found(documents, label, names)
                 texts += self.round_trip(documents, names, schema.root, schema.definitions)
                 well += 1
+        self.assertGreaterEqual(tried, 100)
         self.assertGreaterEqual(well, tried * 0.98)
         said(f"{well} of {tried} CustomResourceDefinitions open, filled to the last field, with an owner of it all, and come back equal; {texts} values stood as texts")
+
+    def test_each_kind_of_openshifts_own_server(self):
+        tried = 0
+        for label, documents, names in real_kinds.of_openshifts_server():
+            tried += 1
+            with self.subTest(kind=label):
+                schema = schemas.found(documents, label, names)
+                self.round_trip(documents, names, schema.root, schema.definitions)
+        self.assertGreater(tried, 30)
+        said(f"{tried} kinds of OpenShift's own server do so too")
 
     def test_each_kind_of_openapi_documents_with_a_filled_object_and_its_owner(self):
         tried = 0
@@ -161,6 +176,30 @@ class Measured(unittest.TestCase):
                 self.same(value, back)
                 self.assertEqual(report.losses, 0)
         said(f"{len(MANIFESTS)} of {len(MANIFESTS)} manifests of kubectl create --dry-run=client open as they are")
+
+    def test_migration_as_client_go_tests_its_own(self):
+        with open(packages.gocode("k8s.io/client-go/util/csaupgrade/upgrade_test.go"), encoding="utf-8") as file:
+            cases = file.read().partition("func TestUpgradeCSA")[2].split("\t\t\tName:")[1:]
+        tried = 0
+        for case in cases:
+            label, manager = (re.search(pattern, case).group(1) for pattern in (r'"([^"]+)"', r'SSAManager:\s+"([^"]+)"'))
+            if "Options:" in case:  # of a subresource, which is nothing of this program's
+                continue
+            names = re.findall(r'"([^"]+)"', re.search(r"CSAManagers:(.*)", case).group(1))
+            given, wanted = (yaml.safe_load(text)["metadata"]["managedFields"] for text in re.findall(r"Object: \[\]byte\(`(.*?)`\)", case, re.DOTALL)[:2])
+            for order in (names, names[::-1]):
+                with self.subTest(case=label, order=order):
+                    entries = given
+                    for name in order:
+                        entries = one_migrated(entries, name, manager)
+                    self.assertEqual([self.told_entry(entry) for entry in entries], [self.told_entry(entry) for entry in wanted])
+            tried += 1
+        self.assertGreaterEqual(tried, 8)
+        said(f"{tried} migrations from client-side apply are as client-go's own tests have them")
+
+    @staticmethod
+    def told_entry(entry):
+        return {**entry, "time": str(entry.get("time")), "fieldsV1": sorted(said_paths(entry["fieldsV1"]))}
 
     def test_an_object_with_managers_from_kubectls_own_tests(self):
         documents = [document for path in real_kinds.OPENAPI for document in real_kinds.read(packages.gocode(path))]

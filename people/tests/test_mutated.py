@@ -2,6 +2,7 @@
 
 Nothing may break the program, and what opens without a word on what was left out or filled in is shown equal.
 """
+import argparse
 import contextlib
 import copy
 import io
@@ -12,7 +13,9 @@ import tempfile
 import unittest
 
 import beside  # noqa: F401
+from ssabench_people.bench import Bench
 from ssabench_people.documents import parse_documents, read_documents, tidy
+from ssabench_people.view import page_data
 from ssabench_people.words import main
 
 HERE = os.path.dirname(os.path.realpath(__file__))
@@ -110,9 +113,16 @@ class Mutated(unittest.TestCase):
             self.assertEqual(without_nulls(tidy(wanted)), without_nulls(shown))
         metadata = {name: given["metadata"][name] for name in ("name", "namespace") if name in given["metadata"]}
         manifest = {**value, **{name: given[name] for name in ("apiVersion", "kind")}, "metadata": metadata}
-        status, _, told = run("apply", "-f", self.write("manifest", mutated(drawn, manifest)), "--field-manager", "z", bench)
+        words = ("-f", self.write("manifest", mutated(drawn, manifest)), "--field-manager", "z")
+        explained, out, _ = run("explain", *words, bench)
+        status, _, told = run("apply", *words, bench)
         self.assertIn(status, (0, 1), told)
         self.assertTrue(status == 0 or told)
+        self.assertEqual(explained, status)
+        self.assertTrue(out or status == 1)
+        for look in (("owners",), ("owners", "--ways"), ("log",), ("log", "--fights")):
+            self.assertEqual(run(*look, bench)[0], 0)
+        page_data(Bench(bench), argparse.Namespace(file=None))
         return 1
 
 
