@@ -2,12 +2,11 @@
 
 The rules are those of Kubernetes' own merge. *Removals*: what an applier owned counts with the named fields above it, and so does
 what anybody owns afterwards; what only the first has goes with all that stands below. So an owner holds the named fields above what
-it owns, but no item and no entry of a map; and an object that is owned as empty, as it was before, is not held where nobody owns
-anything that stands in it. *Order*: the two lists are merged from their heads, led by the items that both have.
+it owns, but no item and no entry of a map. *Order*: the two lists are merged from their heads, led by the items that both have.
 """
 import collections
 
-from .changes import above, topmost
+from .changes import topmost
 from .documents import compact
 from .elements import named_keys, way_of
 
@@ -38,14 +37,8 @@ def removals(root, changes):
     """What a server removes beside what the bench does: places with their ways, the topmost ones."""
     last = with_fields_above(root, changes.own_before)
     held = with_fields_above(root, {path for _, paths in changes.sets_after for path in paths})
-    higher = above(held)
-    held -= {path for path in held & last if path not in higher and _has_children(changes.after.at(path))}
     gone = {path: way_of(path) for path in last - held if changes.after.value(path) is not None}
     return topmost({path: way for path, way in gone.items() if path != ("f:metadata",)})
-
-
-def _has_children(here):
-    return here is not None and bool(here.children())
 
 
 def merged_order(live, given):

@@ -86,16 +86,6 @@ class Removals(unittest.TestCase):
         before = shown({"items": [{"name": "a"}]}, team=item, other=item)
         self.assertEqual(self.told(before, shown({"items": [{"name": "a"}]}, other=item)), [])
 
-    def test_an_object_that_is_owned_as_empty_goes_with_what_nobody_owns_in_it(self):
-        value = {"probe": {"period": "1"}, "limits": {"cpu": "1"}}
-        before = shown(value, team={"f:probe": {"f:path": {}}, "f:limits": {}})
-        after = shown(value, team={"f:probe": {}, "f:limits": {}})
-        self.assertEqual(self.told(before, after), [".spec.limits", ".spec.probe"])
-        new = shown(value, team={"f:limits": {}})
-        self.assertEqual(self.told(shown(value), new), [])
-        empty = shown({"probe": {}}, team={"f:probe": {}})
-        self.assertEqual(self.told(empty, empty), [])
-
     def test_fields_above_are_named_ones_only(self):
         path = ("f:spec", "f:items", 'k:{"name":"a"}', "f:probe", "f:path")
         wanted = {path, path[:1], path[:2], path[:4]}
