@@ -2,13 +2,13 @@
 from typing import NamedTuple
 
 from .benches import DEPTH, Bench, read_state, shown
-from .records import carried, has_shape, record
+from .records import carried, has_shape, record, tells_part
 from .schemas import read_schema
-from .tables import named
+from .tables import is_part_told, named
 from .values import Fault, is_whole, moment, read, text
 
 MOST_BYTES = 67_108_864
-WRITTEN = 2
+WRITTEN = 3
 
 
 class Format(NamedTuple):
@@ -19,8 +19,8 @@ class Format(NamedTuple):
     read: object
 
 
-def head(bench):
-    return {'format': 2, 'future': bench.future(), 'past': bench.past()}
+def head(bench, number):
+    return {'format': number, 'future': bench.future(), 'past': bench.past()}
 
 
 def is_head(said):
@@ -42,7 +42,16 @@ def recorded(bench):
 def file_text(bench, number=WRITTEN):
     """The text of a bench."""
     form = FORMATS[number]
-    return ''.join(text(line) + '\n' for line in [form.head(bench), bench.schema, *form.lines(bench)]).encode()
+    return ''.join(text(line) + '\n' for line in [form.head(bench, number), bench.schema, *form.lines(bench)]).encode()
+
+
+def can_tell(bench, number):
+    """Whether the format can tell the bench: only the last has subresources."""
+    return number == 3 or not (any('subresource' in label for label in bench.labels) or any(map(has_part, bench.states)))
+
+
+def has_part(state):
+    return any(row.key.part for row in state.table)
 
 
 def is_label(said):
@@ -50,7 +59,8 @@ def is_label(said):
         if said == {'do': 'strip'}:
             return True
         members = {'apply': {'at', 'do', 'force', 'manager'}, 'update': {'at', 'do', 'manager'}}[said['do']]
-        is_well = isinstance(said['manager'], str) and isinstance(said.get('force', True), bool) and said.keys() == members
+        is_well = (isinstance(said['manager'], str) and isinstance(said.get('force', True), bool) and is_part_told(said)
+                   and said.keys() - {'subresource'} == members)
         return is_well and bool(named(said['manager']) and moment(said['at']))
     except (Fault, LookupError, TypeError):
         return False
@@ -102,7 +112,9 @@ def read_recorded(lines, first, schema, kind):
     told = lines.next()
     identity, state = as_70(read_state, kind, told)
     that(text(shown(identity, state, True)) == text(told))
-    past, future = read_way(lines, first['past'], state, kind, identity), read_way(lines, first['future'], state, kind, identity)
+    has_parts = first['format'] == 3
+    that(has_parts or not has_part(state))
+    past, future = (read_way(lines, first[name], state, kind, identity, has_parts) for name in ('past', 'future'))
     bench = Bench(schema, kind, identity, state)
     bench.states = [it for it, _ in reversed(past)] + [state] + [it for it, _ in future]
     bench.labels = [label for _, label in reversed(past)] + [label for _, label in future]
@@ -110,16 +122,17 @@ def read_recorded(lines, first, schema, kind):
     return bench
 
 
-def read_way(lines, number, state, kind, identity):
+def read_way(lines, number, state, kind, identity, has_parts):
     """The states to which so many lines lead, each with its label."""
     found = []
     for _ in range(number):
         line = lines.next()
         that(isinstance(line, dict) and line.keys() == {'command', 'record'} and is_label(line['command']) and has_shape(line['record']))
+        that(has_parts or not ('subresource' in line['command'] or tells_part(line['record'])))
         state = carried(line['record'], state, kind, identity[0])
         found.append((state, line['command']))
     return found
 
 
 # Each format that is read, by its number.
-FORMATS = {2: Format(head, is_head, recorded, read_recorded)}
+FORMATS = {number: Format(head, is_head, recorded, read_recorded) for number in (2, 3)}

@@ -8,6 +8,7 @@ from .drawn_commands import (bad_line, identified, moment, new_value, of_crowd, 
                              some_path, with_entries)
 from .drawn_schemas import EVERY_KIND, some_schema
 from .drawn_values import led, permuted, spelled, spoiled, spoiled_bytes
+from .files import can_tell, file_text
 from .play import Play
 from .schemas import read_schema
 from .values import text
@@ -127,7 +128,7 @@ def command_by_words(dice, play, command):
         given = spoiled_bytes(dice, given) if dice.one_in(2) else text(spoiled(dice, command['object'])).encode()
     at = command['at'] if not dice.one_in(12) else dice.pick(('', 'x', '1969-12-31T23:59:59Z', '2024-02-30T00:00:00Z', '2024-02-29T23:59:59Z'))
     force = (command.get('force', False),) if command['do'] == 'apply' else ()
-    play.step('ask', command['do'], given, at, command['manager'], *force)
+    play.step('ask', command['do'], given, at, command['manager'], command.get('subresource', ''), *force)
 
 
 def starts(dice, play):
@@ -159,7 +160,7 @@ def damaged(dice, play):
         give(dice, play, some_command(dice, play.bench(), step))
     play.step('save')
     play.close()
-    good = play.desk.file
+    good = play.desk.file if not dice.one_in(3) else file_text(play.bench(), 2)
     for _ in range(30):
         given = spoiled_bytes(dice, good) if dice.one_in(4) else invented(dice, good)
         play.step('file', given)
@@ -170,6 +171,36 @@ def damaged(dice, play):
         play.step('line', text(SHOW).encode())
         if play.tally and play.bench() and given != good:
             play.tally.add('a changed file is taken')
+
+
+def older(dice, play):
+    """A bench with a history, mostly without subresources, saved in an older format and in its own: each file is taken, and goes on as the
+    bench does, or is refused where its format cannot tell the bench."""
+    # Where it is stripped at the end, records alone may tell of a subresource.
+    is_stripped = dice.one_in(3)
+    begin(dice, play, EVERY_KIND, dice.pick(IDENTITIES), 4 if is_stripped else dice.below(3))
+    if play.bench() is None:
+        return
+    for step in range(1 + dice.below(8)):
+        command = some_command(dice, play.bench(), step)
+        if is_stripped or not dice.one_in(8):
+            command.pop('subresource', None)
+        give(dice, play, command)
+    if is_stripped:
+        give(dice, play, {'do': 'strip'})
+    play.close()
+    bench = play.bench()
+    for number in (2, 3):
+        play.step('file', file_text(bench, number))
+        is_taken = play.bench() is not None
+        if is_taken != can_tell(bench, number) or is_taken and file_text(play.bench()) != file_text(bench):
+            raise AssertionError('a file of format %d is not taken as its bench' % number)
+        if play.tally:
+            play.tally.add('format %d: %s' % (number, 'taken' if is_taken else 'refused'))
+        for word in dice.some(('undo', 'redo', 'undo')):
+            play.step('line', text({'do': word}).encode())
+        if is_taken:
+            give(dice, play, some_command(dice, play.bench(), 20))
 
 
 def invented(dice, given):
@@ -228,12 +259,12 @@ def limits(dice, play):
     long = b'{"do":"undo"}' + b' ' * 1_048_564
     for line in (long, long[:-1], b'[' * 127 + b']' * 127, b'[' * 128 + b']' * 128, b'{"do":' * 200):
         play.step('line', line)
-    play.step('ask', 'apply', text(start).encode() + b' ' * 1_048_576, moment(1), 'a', False)
+    play.step('ask', 'apply', text(start).encode() + b' ' * 1_048_576, moment(1), 'a', '', False)
     play.step('ask', 'log')
 
 
 # How many stories of each kind are drawn for a seed; those of limits are the same for all.
-STORIES = {great: 1, small: 100, crowded: 6, long_lists: 4, words: 16, starts: 30, damaged: 24}
+STORIES = {great: 1, small: 100, crowded: 6, long_lists: 4, words: 16, starts: 30, damaged: 24, older: 24}
 
 
 def jobs(seeds, times):

@@ -17,6 +17,7 @@ ghost use Rattle.ssa_bench.specs.Taking.{held_counts};
 use crate::bench::Bench;
 use crate::taking::{counts_of, schema_of};
 use ssa_file::head::RecordCounts;
+use ssa_file::recording::RecordFormat;
 use ssa_json::source::Source;
 use ssa_lines::loading::{FileLine, LoadFault, read_value};
 use ssa_lines::saving::MOST_FILE_BYTES;
@@ -41,7 +42,7 @@ fn next_line<R: Source>(
     }
 }
 
-// Reads the first line: how many commands can be undone, and how many redone.
+// Reads the first line: the format, how many commands can be undone, and how many redone.
 fn read_counts<R: Source>(
     alloc: Global,
     reader: &mut R,
@@ -73,6 +74,7 @@ fn read_present<R: Source>(
     alloc: Global,
     reader: &mut R,
     room: &mut usize,
+    format: RecordFormat,
     schema: Schema,
 ) -> Result<Bench, LoadFault>
     ensures lone { IfOk result (λ b. b.timeline ≡ lone_state b.timeline.first) }
@@ -80,7 +82,7 @@ fn read_present<R: Source>(
     ensures failed { result ≡ Err LoadFault.Io → R.has_failed reader.new ≡ true }
 {
     let line = next_line(alloc, reader, room)?;
-    Bench::of_present_line(alloc, schema, line)
+    Bench::of_present_line(alloc, format, schema, line)
 }
 
 // Reads the lines of the past, and goes back along them.
@@ -89,6 +91,7 @@ fn read_past<R: Source>(
     reader: &mut R,
     room: &mut usize,
     bench: &mut Bench,
+    format: RecordFormat,
     count: usize,
     number: &mut usize,
 ) -> Result<(), LoadFault>
@@ -101,7 +104,7 @@ fn read_past<R: Source>(
     for _ in 0..count {
         *number = number.saturating_add(1);
         let line = next_line(alloc, reader, room)?;
-        bench.go_back_by(alloc, &line)?;
+        bench.go_back_by(alloc, format, &line)?;
     }
     Ok(())
 }
@@ -112,6 +115,7 @@ fn read_future<R: Source>(
     reader: &mut R,
     room: &mut usize,
     bench: &mut Bench,
+    format: RecordFormat,
     count: usize,
     number: &mut usize,
 ) -> Result<(), LoadFault>
@@ -124,7 +128,7 @@ fn read_future<R: Source>(
     for _ in 0..count {
         *number = number.saturating_add(1);
         let line = next_line(alloc, reader, room)?;
-        bench.go_on_by(alloc, &line)?;
+        bench.go_on_by(alloc, format, &line)?;
     }
     bench.place_is_within();
     Ok(())
@@ -155,9 +159,9 @@ fn read_history<R: Source>(
     ensures read { ReadsHistory counts.now.past counts.now.future (R.remaining reader.old) (R.remaining reader.new) room.old bench.old bench.new result }
     ensures failed { result ≡ Err LoadFault.Io → R.has_failed reader.new ≡ true }
 {
-    read_past(alloc, reader, room, bench, counts.past, number)?;
+    read_past(alloc, reader, room, bench, counts.format, counts.past, number)?;
     bench.go_to(counts.past);
-    read_future(alloc, reader, room, bench, counts.future, number)?;
+    read_future(alloc, reader, room, bench, counts.format, counts.future, number)?;
     *number = number.saturating_add(1);
     read_end(alloc, reader, room)?;
     bench.go_to(counts.past);
@@ -165,7 +169,8 @@ fn read_history<R: Source>(
 }
 
 impl Bench {
-    /// Takes a bench from its file: the text that [`save`](Bench::save) writes of it, and nothing else.
+    /// Takes a bench from its file: the text that [`save`](Bench::save) writes of it, which is of format 3, or its text of
+    /// format 2, and nothing else. In format 2 no command and no manager has a subresource.
     ///
     /// Reads line by line, and holds one line beside the bench that it makes: the present object first,
     /// then the records that lead back from it, and those that lead on. Each record's room is made on
@@ -204,7 +209,7 @@ impl Bench {
         *number = 2;
         let schema = read_schema(alloc, reader, &mut room)?;
         *number = 3;
-        let mut bench = read_present(alloc, reader, &mut room, schema)?;
+        let mut bench = read_present(alloc, reader, &mut room, counts.format, schema)?;
         read_history(alloc, reader, &mut room, &mut bench, &counts, number)?;
         bench.is_valid();
         bench.paths_are_read();

@@ -1,12 +1,13 @@
 //! Bench files: a bench as a text, and the head of one.
 //!
-//! What a bench is as a text is written by [`recorded_text`]; its first line, the head, says how many
+//! What a bench is as a text is written by [`recorded_text`]; its first line, the head, says the format and how many
 //! commands it has, which [`record_counts`] reads.
 //!
 //! ```
-//! let head = json(rt.alloc(), r#"{"format":2,"future":0,"past":1}"#)?;
+//! let head = json(rt.alloc(), r#"{"format":3,"future":0,"past":1}"#)?;
 //! let counts = record_counts(rt.alloc(), &head)?;
-//! assert_eq!(rt; counts, Some(RecordCounts { past: 1, future: 0 }));
+//! let format = RecordFormat::Parts;
+//! assert_eq!(rt; counts, Some(RecordCounts { format, past: 1, future: 0 }));
 //! ```
 #![tactic(auto)]
 
@@ -14,4 +15,4 @@ pub mod head;
 pub mod recording;
 
 pub use head::{RecordCounts, record_counts};
-pub use recording::{record_head, recorded_text};
+pub use recording::{RecordFormat, record_head, recorded_text};

@@ -14,7 +14,7 @@ pub mod Kind
 pub mod Schema
 -- bodies: values flattened to whole paths; points, comparison, merging, restriction
 pub mod Body
--- the parts of an object
+-- the parts of an object, and who acts on which
 pub mod Parts
 -- managers, and the table after a command
 pub mod Table
@@ -80,3 +80,5 @@ pub mod RecordText
 pub mod RecordReading
 -- the text of a bench file of records
 pub mod RecordedBench
+-- the formats of bench files
+pub mod Formats

@@ -25,3 +25,5 @@ pub mod RecordedRows
 -- records that fit a state, and some that don't
 pub mod FittingRows
 pub mod PlaceRows
+-- the parts of an object
+pub mod PartRows
