@@ -73,6 +73,10 @@ class Bench:
         self.schema, self.kind, self.identity = schema, kind, identity
         self.states, self.labels, self.place = [state], [], 0
 
+    def is_same(self, other):
+        """Whether it is of the same schema and object, with the same history."""
+        return all(getattr(self, it) == getattr(other, it) for it in ('schema', 'identity', 'states', 'labels', 'place'))
+
     def state(self):
         return self.states[self.place]
 

@@ -4,7 +4,7 @@ from typing import NamedTuple
 from .benches import DEPTH, Bench, read_state, shown
 from .records import carried, has_shape, record
 from .schemas import read_schema
-from .tables import named
+from .tables import is_in_one_order, named
 from .values import Fault, is_whole, moment, read, text
 
 MOST_BYTES = 67_108_864
@@ -17,6 +17,20 @@ class Format(NamedTuple):
     is_head: object
     lines: object
     read: object
+
+
+def states_head(bench):
+    return {'format': 1, 'place': bench.place, 'states': len(bench.states)}
+
+
+def is_states_head(said):
+    return (said.keys() == {'format', 'place', 'states'} and is_whole(said['place']) and is_whole(said['states'])
+            and 0 <= said['place'] < said['states'] <= DEPTH + 1)
+
+
+def whole_states(bench):
+    """Each state's object, with the command that made it; none made the first."""
+    return [{'command': label, 'object': shown(bench.identity, state, True)} for label, state in zip([{}, *bench.labels], bench.states)]
 
 
 def head(bench):
@@ -98,6 +112,32 @@ def read_file(given):
     return bench
 
 
+def read_states(lines, first, schema, kind):
+    identity, state = as_70(read_line_of_state, kind, lines.next(), True)
+    bench = Bench(schema, kind, identity, state)
+    for _ in range(first['states'] - 1):
+        line = lines.next()
+        other, state = as_70(read_line_of_state, kind, line, False)
+        that(other == identity and is_in_one_order(bench.states[-1].table, state.table))
+        bench.states.append(state)
+        bench.labels.append(line['command'])
+    return at_place(bench, first['place'])
+
+
+def at_place(bench, place):
+    bench.place = place
+    return bench
+
+
+def read_line_of_state(kind, line, is_first):
+    """The identity and the state that a line of a file of whole states tells."""
+    that(isinstance(line, dict) and line.keys() == {'command', 'object'})
+    that(line['command'] == {} if is_first else is_label(line['command']))
+    identity, state = read_state(kind, line['object'])
+    that(text(shown(identity, state, True)) == text(line['object']))
+    return identity, state
+
+
 def read_recorded(lines, first, schema, kind):
     told = lines.next()
     identity, state = as_70(read_state, kind, told)
@@ -122,4 +162,5 @@ def read_way(lines, number, state, kind, identity):
 
 
 # Each format that is read, by its number.
-FORMATS = {2: Format(head, is_head, recorded, read_recorded)}
+FORMATS = {1: Format(states_head, is_states_head, whole_states, read_states),
+           2: Format(head, is_head, recorded, read_recorded)}

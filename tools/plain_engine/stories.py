@@ -8,12 +8,14 @@ from .drawn_commands import (bad_line, identified, moment, new_value, of_crowd, 
                              some_path, with_entries)
 from .drawn_schemas import EVERY_KIND, some_schema
 from .drawn_values import led, permuted, spelled, spoiled, spoiled_bytes
+from .files import FORMATS, file_text
 from .play import Play
 from .schemas import read_schema
 from .values import text
 
 IDENTITIES = (('v1', 'K', 'n'), ('v1', 'K', 'n'), ('example.com/v1', 'App', 'web', 'space'), ('é', '"', '\\', '\n'))
 DRAWN, CROWD, MOST_FILLING, MOST_MOVES, SAVE_EVERY = 900, 80, 3_000, 1_001, 300
+DAMAGED_FILES = 8
 SHOW = {'do': 'show', 'managed': True}
 
 
@@ -57,6 +59,9 @@ def great(dice, play):
             give(dice, play, {'do': word})
             if number == MOST_MOVES // 2:
                 play.step('save')
+    play.close()
+    play.step('file', file_text(play.bench(), 1))
+    play.step('line', b'{"do":"undo"}')
 
 
 def small(dice, play):
@@ -172,6 +177,39 @@ def damaged(dice, play):
             play.tally.add('a changed file is taken')
 
 
+def formats(dice, play):
+    """A bench with a history, saved in each format: each file is taken as the bench, goes on as it does, and is damaged."""
+    begin(dice, play, EVERY_KIND if dice.one_in(2) else some_schema(dice), dice.pick(IDENTITIES), dice.below(5))
+    if play.bench() is None:
+        return
+    for step in range(1 + dice.below(10)):
+        give(dice, play, some_command(dice, play.bench(), step))
+    for word in dice.some(('undo', 'undo', 'undo', 'redo')):
+        give(dice, play, {'do': word})
+    play.close()
+    bench = play.bench()
+    for number, given in [(number, file_text(bench, number)) for number in sorted(FORMATS)]:
+        play.step('file', given)
+        if not play.bench().is_same(bench):
+            raise AssertionError('a file of format %d is taken as another bench' % number)
+        play.step('ask', 'log')
+        for word in dice.some(('undo', 'redo', 'undo')):
+            give(dice, play, {'do': word})
+        give(dice, play, some_command(dice, play.bench(), 20))
+        play.step('save')
+        damaged_in_format(dice, play, number, given)
+
+
+def damaged_in_format(dice, play, number, good):
+    for _ in range(DAMAGED_FILES):
+        given = spoiled_bytes(dice, good) if dice.one_in(4) else invented(dice, good)
+        play.step('file', given)
+        play.step('ask', 'log')
+        play.step('line', text(SHOW).encode())
+        if play.tally and given != good:
+            play.tally.add('format %d: a changed file %s' % (number, 'is taken' if play.bench() else 'is refused'))
+
+
 def invented(dice, given):
     """A bench's file with a line that tells something else."""
     lines = given.split(b'\n')[:-1]
@@ -233,7 +271,7 @@ def limits(dice, play):
 
 
 # How many stories of each kind are drawn for a seed; those of limits are the same for all.
-STORIES = {great: 1, small: 100, crowded: 6, long_lists: 4, words: 16, starts: 30, damaged: 24}
+STORIES = {great: 1, small: 100, crowded: 6, long_lists: 4, words: 16, starts: 30, damaged: 24, formats: 24}
 
 
 def jobs(seeds, times):

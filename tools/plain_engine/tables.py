@@ -53,6 +53,12 @@ def row_of(table, key):
     return next((row for row in table if row.key == key), None)
 
 
+def is_in_one_order(before, after):
+    """Whether the managers of both tables stand in one order in them."""
+    keys = [[row.key for row in table if row_of(other, row.key)] for table, other in ((before, after), (after, before))]
+    return keys[0] == keys[1]
+
+
 def seat(table, key, owned, lost, modified, at):
     """The table after a command of a manager whose set is then `owned`, where the others lose `lost`."""
     before = row_of(table, key)

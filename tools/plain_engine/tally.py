@@ -3,6 +3,7 @@ import json
 
 from .benches import read_object
 from .bodies import DICT, METADATA, is_leaf, points
+from .files import FORMATS
 from .paths import is_item
 from .values import NAMES, text
 
@@ -24,7 +25,8 @@ ORDERS = ('configured in another order', 'inside an item in another order', 'som
           'new ones among others in another order', 'updated in another order', 'a map list in another order',
           'many in another order', 'others between those in another order')
 CALLS = ('init', 'session', *(word + ' by words' for word in ('apply', 'update', 'strip', 'undo', 'redo', 'show', 'owners', 'log')),
-         'file', 'a changed file is taken', 'status 0', 'status 1', 'status 3', 'files compared', 'history of 1,000')
+         'file', 'a changed file is taken', *('format %d: %s' % (number, it) for number in sorted(FORMATS) for it in (
+             'a file', 'a changed file is taken', 'a changed file is refused')), 'status 0', 'status 1', 'status 3', 'files compared', 'history of 1,000')
 # What the stories of each seed have to meet, and what all stories together.
 OF_EACH_SEED = (*COMMANDS, 'accepted', 'Conflict', 'undone', 'redone', 'NothingToUndo', 'NothingToRedo', 'TooManyManagers', 'HistoryFull',
          'places', 'entries', 'owned paths', *LOOKS, *RECORD, *BODY, *DONE, *ORDERS,
@@ -75,6 +77,8 @@ class Tally:
     def outcome(self, word, outcome):
         self.add(word, word in CALLS)
         self.add('status %s' % outcome.status)
+        if word == 'file' and outcome.file.startswith(b'{"format":'):
+            self.add('format %s: a file' % outcome.file[10:11].decode('ascii', 'replace'))
         if word in ('init', 'file') and outcome.printed.startswith(b'{"fault":'):
             self.add(json.loads(outcome.printed)['name'])
         if outcome.status == 3 and outcome.printed:

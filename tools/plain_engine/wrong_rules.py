@@ -163,6 +163,16 @@ def records_not_compared(told, before, kind, version):
     raise records.Fault(71)
 
 
+def present_state_is_the_last(bench, place):
+    bench.place = len(bench.labels)
+    return bench
+
+
+def commands_of_states_not_asked(kind, line, is_first):
+    files.that(isinstance(line, dict) and line.keys() == {'command', 'object'})
+    return benches.read_state(kind, line['object'])
+
+
 def orders_not_recorded(order, after):
     return False
 
@@ -186,4 +196,5 @@ WRONG = {it[2].__name__: it for it in (
     (benches.Bench, 'change', future_cleared_by_refusal), (benches.Bench, 'keep', future_kept), (benches.Bench, 'keep', no_change_not_kept),
     (benches.Bench, 'move', removed_items_at_the_end), (benches.Bench, 'move', emptied_managers_last),
     (tables, 'read_fields_v1', not_canonical_read), (files.Lines, 'next', second_spelling_read), (files, 'carried', records_not_compared),
+    (files, 'at_place', present_state_is_the_last), (files, 'read_line_of_state', commands_of_states_not_asked),
     (records, 'is_reordered', orders_not_recorded), (records, 'alone', all_changed_paths_cut))}

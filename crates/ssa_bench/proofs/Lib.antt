@@ -2,6 +2,7 @@ pub mod Planned
 pub mod Taken
 pub mod ReadBack
 pub mod TakenLines
+pub mod TakenStates
 pub mod LoadedParts
 pub mod LoadedMoves
 pub mod LoadedBench

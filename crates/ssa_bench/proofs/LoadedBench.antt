@@ -1,21 +1,26 @@
 -- What was read of a bench file so far, and what is known of the whole where all of it was read or its next line is refused.
-use Rattle.std.proofs.Common.{◌≡◌, ◌≤◌, ℕ, List, length, Bool, true, false, Option, Some, None, option_map, refl, sym, ap, subst, ◌∙◌, arith}
-use Rattle.std.proofs.lemmas.Bool.Decides.{nat_tests}
+use Rattle.std.proofs.Common.{◌≡◌, ◌-◌, ℕ, List, Option, Some, None, option_map, refl, sym, ap, subst, ◌∙◌}
 use Rattle.std.proofs.lemmas.Option.{none-some}
-use Rattle.std.specs.Prelude.{Result, Ok, Err, nat_le, if◌then◌else◌}
+use Rattle.std.specs.Prelude.{Result, Ok, Err}
 use Rattle.ssa_model.specs.definitions.Limits.{most_bench_bytes}
 use Rattle.ssa_model.specs.definitions.Json.{Json}
+use Rattle.ssa_model.specs.definitions.Schema.{Schema}
 use Rattle.ssa_model.specs.definitions.History.{Bench, appended}
 use Rattle.ssa_model.specs.definitions.BenchFile.{IsValidBench}
 use Rattle.ssa_model.specs.definitions.RecordedBench.{HasReadHistory}
-use Rattle.ssa_model.specs.laws.LineByLine.{FilesAreRead, Move, Next, Reader, after_part, after_value, along, at_end, at_last, at_place, ended_with, file_from, moves_from, next_value, no_value, on_from, preceded, value_then, with_part}
-use Rattle.ssa_model.specs.laws.RecordedBenches.{Counts, counts_in, MoveFault, no_move_text, record_does_not_fit, recorded_bench_in, recorded_fault, RecordedFilesAreTaken, TakenIsRecordedText}
-use Rattle.ssa_model.proofs.LineByLine.{after_head}
+use Rattle.ssa_model.specs.laws.BenchFiles.{schema_in}
+use Rattle.ssa_model.specs.laws.Formats as formats
+use Rattle.ssa_model.specs.laws.Formats.{file_head, file_bench_in, file_fault, FilesAreTaken, TakenIsFile}
+use Rattle.ssa_model.specs.laws.LineByLine.{FilesAreRead, Next, Reader, after_part, after_value, along, at_end, at_last, at_place, ended_with, file_from, later_from, moves_from, next_value, no_value, on_from, preceded, rest_from, shown_in, steps_from, value_then, with_part}
+use Rattle.ssa_model.specs.laws.RecordedBenches.{MoveFault, no_move_text, record_does_not_fit}
 use Rattle.ssa_json.specs.Readings.{readings}
+use Rattle.ssa_file.specs.Heads.{head_view, place_view}
+use Rattle.ssa_file.specs.declared.head.FileHead.{FileHead}
+use Rattle.ssa_file.specs.declared.head.StatePlace.{StatePlace}
 use Rattle.ssa_lines.specs.declared.loading.LoadFault.{LoadFault}
 use Rattle.ssa_lines.specs.declared.loading.LoadFault.TheVariants.{BenchText, RecordDoesNotFit, Io, OutOfMemory}
-use Rattle.ssa_bench.specs.Loading.{IsRefused, Loads, ReadRefuses, ReadsEnd, ReadsHistory, ReadsMoves, ReadsPart}
-use Rattle.ssa_bench.specs.Taking.{counts_view, held_counts}
+use Rattle.ssa_bench.specs.Loading.{IsRefused, Loads, ReadRefuses, ReadsAlong, ReadsAll, ReadsEnd, ReadsMoves, ReadsOn, ReadsPart, ReadsSteps, Walk}
+use Rattle.ssa_bench.specs.Taking.{held, held_head}
 
 -- what is read of all bytes from here is what this reader reads of those that are left
 abbrev pub ReachedFrom : Reader → ℕ → Option (List ℕ) → Option (List ℕ) → ℕ → Reader → Type 0
@@ -27,6 +32,20 @@ ReachedFrom start most (Some xs) (Some ys) room reader = start xs most ≡ reade
 abbrev pub Reached : Option (List ℕ) → Option (List ℕ) → ℕ → Reader → Type 0
 Reached = ReachedFrom (file_from readings) most_bench_bytes
 
+-- ---- what stands behind the parts
+
+-- behind the state that is shown
+abbrev pub behind_shown : FileHead → Bench → Reader
+behind_shown head = rest_from readings (head_view head)
+
+-- behind the schema: the state that is shown, and the rest
+abbrev pub behind_schema : FileHead → Schema → Reader
+behind_schema head schema = with_part readings (shown_in readings (head_view head) schema) (behind_shown head)
+
+-- behind the head: the schema, and what follows it
+abbrev pub behind_head : FileHead → Reader
+behind_head head = with_part readings schema_in (behind_schema head)
+
 -- ---- from part to part
 
 -- nothing is read yet
@@ -34,21 +53,26 @@ pub reached-start : (start : Reader) (most : ℕ) (a : Option (List ℕ)) → Re
 reached-start start most None = tt
 reached-start start most (Some xs) = refl
 
-held-same : (go : Counts → Reader) (ys : List ℕ) (left : ℕ) (o : Option Counts)
-    → after_part go o ys left ≡ after_part (λ c. go (counts_view c)) (option_map (λ (c : Counts). record { past = c.past; future = c.future }) o) ys left
-held-same go ys left (Some c) = refl
+held-same : (go : formats.FileHead → Reader) (ys : List ℕ) (left : ℕ) (o : Option formats.FileHead)
+    → after_part go o ys left ≡ after_part (λ h. go (head_view h)) (option_map held o) ys left
+held-same go ys left (Some (formats.of_states h)) = refl
+held-same go ys left (Some (formats.of_records c)) = refl
 held-same go ys left None = refl
 
-held-next : (go : Counts → Reader) (next : Next)
-    → after_value (λ v. after_part go (counts_in v)) next ≡ after_value (λ v. after_part (λ c. go (counts_view c)) (held_counts v)) next
+held-next : (go : formats.FileHead → Reader) (next : Next)
+    → after_value (λ v. after_part go (file_head v)) next ≡ after_value (λ v. after_part (λ h. go (head_view h)) (held_head v)) next
 held-next go at_end = refl
 held-next go no_value = refl
-held-next go (value_then v ys left) = held-same go ys left (counts_in v)
+held-next go (value_then v ys left) = held-same go ys left (file_head v)
 
--- the file begins with its counts
-pub reached-none : (a : Option (List ℕ)) → Reached a a most_bench_bytes (with_part readings held_counts (λ c. after_head readings (counts_view c)))
+-- what follows a head, as the definitions have it
+abbrev follows : formats.FileHead → Reader
+follows head = with_part readings schema_in (λ schema. with_part readings (shown_in readings head schema) (rest_from readings head))
+
+-- the file begins with its head
+pub reached-none : (a : Option (List ℕ)) → Reached a a most_bench_bytes (with_part readings held_head behind_head)
 reached-none None = tt
-reached-none (Some xs) = held-next (after_head readings) (next_value readings most_bench_bytes xs)
+reached-none (Some xs) = held-next follows (next_value readings most_bench_bytes xs)
 
 -- where a part of the file is read, its reader has reached what stands behind the part
 pub reached-part : {X : Type 0} (take : Json → Option X) (go : X → Reader) (a b c : Option (List ℕ)) (room room_after : ℕ) (x : X)
@@ -58,26 +82,67 @@ reached-part take go (Some xs) None c room room_after x reached part = absurd re
 reached-part take go (Some xs) (Some ys) c room room_after x reached part =
     subst (λ d. Reached (Some xs) d room_after (go x)) (sym part.left) (reached ∙ part.goes_on go)
 
--- where moves are read, their reader has reached what stands behind them, with the bench that they lead to
-pub reached-moves : (start : Reader) (most : ℕ) (move : Move) (go : Bench → Reader) (count : ℕ) (a b c : Option (List ℕ)) (room room_after : ℕ)
-    (old new : Bench) → ReachedFrom start most a b room (along readings move go count old)
-    → ReadsMoves move count b c room room_after old new (Ok tt) → ReachedFrom start most a c room_after (go new)
-reached-moves start most move go count None b c room room_after old new reached moves = tt
-reached-moves start most move go count (Some xs) None c room room_after old new reached moves = absurd reached
-reached-moves start most move go count (Some xs) (Some ys) c room room_after old new reached moves =
-    subst (λ d. ReachedFrom start most (Some xs) d room_after (go new)) (sym moves.left) (reached ∙ moves.goes_on go)
+-- where lines are read, their reader has reached what stands behind them, with the bench that they lead to
+pub reached-along : (start : Reader) (most : ℕ) (walk : Walk) (go : Bench → Reader) (count : ℕ) (a b c : Option (List ℕ)) (room room_after : ℕ)
+    (old new : Bench) → ReachedFrom start most a b room (walk go count old)
+    → ReadsAlong walk count b c room room_after old new (Ok tt) → ReachedFrom start most a c room_after (go new)
+reached-along start most walk go count None b c room room_after old new reached lines = tt
+reached-along start most walk go count (Some xs) None c room room_after old new reached lines = absurd reached
+reached-along start most walk go count (Some xs) (Some ys) c room room_after old new reached lines =
+    subst (λ d. ReachedFrom start most (Some xs) d room_after (go new)) (sym lines.left) (reached ∙ lines.goes_on go)
 
--- ---- the lines behind the present object
+-- ---- to the end
 
--- where what is left of them is refused, so are they
-history-refused : (past future : ℕ) (old new : Bench) (a b c : Option (List ℕ)) (most room : ℕ) (reader : Reader) (f : LoadFault)
-    → ReachedFrom (moves_from readings past future old) most a b room reader → ((ys : List ℕ) → b ≡ Some ys → ReadRefuses f (reader ys room))
-    → ReadsHistory past future a c most old new (Err f)
-history-refused past future old new None b c most room reader f reached refused = tt
-history-refused past future old new (Some xs) None c most room reader f reached refused = absurd reached
-history-refused past future old new (Some xs) (Some ys) c most room reader f reached refused = subst (ReadRefuses f) (sym reached) (refused ys refl)
+-- where what is left is refused, so is all
+pub all-refused : (start : Reader) (a b c : Option (List ℕ)) (most room : ℕ) (reader : Reader) (f : LoadFault)
+    → ReachedFrom start most a b room reader → ((ys : List ℕ) → b ≡ Some ys → ReadRefuses f (reader ys room)) → ReadsAll start a c most (Err f)
+all-refused start None b c most room reader f reached refused = tt
+all-refused start (Some xs) None c most room reader f reached refused = absurd reached
+all-refused start (Some xs) (Some ys) c most room reader f reached refused = subst (ReadRefuses f) (sym reached) (refused ys refl)
 
--- all of them: back along the past to a bench, on along the future to another, and to the end
+-- where nothing is left, all is read
+at-end : (start : Reader) (most room place : ℕ) (last made : Bench) (a b c : Option (List ℕ)) → made ≡ at_place place last
+    → ReachedFrom start most a b room (ended_with readings (at_place place last)) → ReadsEnd b c room (Ok tt) → ReadsAll start a c most (Ok made)
+at-end start most room place last made None b c is reached end = tt
+at-end start most room place last made (Some xs) None c is reached end = absurd reached
+at-end start most room place last made (Some xs) (Some ys) c is reached end =
+    (reached ∙ ap (at_last (at_place place last)) end.0 ∙ ap (λ x. Ok x) (sym is), end.1)
+
+-- ---- all later states
+
+-- on along them to a bench, and to the end
+module _ (place : StatePlace) (first last : Bench) (a b c : Option (List ℕ)) (most room : ℕ) where
+  abbrev from_first : Reader
+  from_first = later_from readings (place_view place) first
+
+  abbrev at_their_end : Bench → Reader
+  at_their_end x = ended_with readings (at_place place.place x)
+
+  reached-latest : ReadsSteps (place.states - 1) a b most room first last (Ok tt) → ReachedFrom from_first most a b room (at_their_end last)
+  reached-latest h =
+      reached-along from_first most (steps_from readings) at_their_end (place.states - 1) a a b most room first last (reached-start from_first most a) h
+
+  -- where the line of one is refused, so are they
+  pub steps-refused : (f : LoadFault) → ReadsSteps (place.states - 1) a b most room first last (Err f) → ReadsOn from_first a b most last (Err f)
+  steps-refused f h =
+      all-refused from_first a a b most most from_first f (reached-start from_first most a)
+      (λ ys is. subst (λ o. ReadsSteps (place.states - 1) o b most room first last (Err f)) is h at_their_end)
+
+  -- where something stands behind the last one, or the source fails there, they are refused
+  pub steps-end-refused : (f : LoadFault) → ReadsSteps (place.states - 1) a b most room first last (Ok tt) → ReadsEnd b c room (Err f)
+      → ReadsOn from_first a c most last (Err f)
+  steps-end-refused f h end =
+      all-refused from_first a b c most room (at_their_end last) f (reached-latest h)
+      (λ ys there. subst (λ o. ReadsEnd o c room (Err f)) there end (at_place place.place last))
+
+  -- where the end is reached, they are read, and the bench is the one that they led to, gone to the place
+  pub steps-read : (made : Bench) → made ≡ at_place place.place last → ReadsSteps (place.states - 1) a b most room first last (Ok tt)
+      → ReadsEnd b c room (Ok tt) → ReadsOn from_first a c most made (Ok tt)
+  steps-read made is h end = at-end from_first most room place.place last made a b c is (reached-latest h) end
+
+-- ---- all records
+
+-- back along the past to a bench, on along the future to another, and to the end
 module _ (past future : ℕ) (first back last : Bench) (a b c d : Option (List ℕ)) (most room room_after : ℕ) where
   abbrev start : Reader
   start = moves_from readings past future first
@@ -92,56 +157,50 @@ module _ (past future : ℕ) (first back last : Bench) (a b c d : Option (List �
   WentOn moved = ReadsMoves appended future b c room room_after moved last (Ok tt)
 
   reached-back : WentBack → ReachedFrom start most a b room (on_from readings past future back)
-  reached-back h = reached-moves start most preceded (on_from readings past future) past a a b most room first back (reached-start start most a) h
+  reached-back h = reached-along start most (along readings preceded) (on_from readings past future) past a a b most room first back
+      (reached-start start most a) h
 
   reached-on : (moved : Bench) → moved ≡ at_place past back → WentBack → ReachedFrom start most a b room (along readings appended ends future moved)
   reached-on moved is h = subst (λ x. ReachedFrom start most a b room (along readings appended ends future x)) (sym is) (reached-back h)
 
   reached-last : (moved : Bench) → moved ≡ at_place past back → WentBack → WentOn moved → ReachedFrom start most a c room_after (ends last)
-  reached-last moved is h k = reached-moves start most appended ends future a b c room room_after moved last (reached-on moved is h) k
+  reached-last moved is h k =
+      reached-along start most (along readings appended) ends future a b c room room_after moved last (reached-on moved is h) k
 
   -- where a line of the past is refused, so are they
-  pub past-refused : (f : LoadFault) → ReadsMoves preceded past a b most room first back (Err f) → ReadsHistory past future a b most first back (Err f)
+  pub past-refused : (f : LoadFault) → ReadsMoves preceded past a b most room first back (Err f) → ReadsOn start a b most back (Err f)
   past-refused f h =
-      history-refused past future first back a a b most most start f (reached-start start most a)
+      all-refused start a a b most most start f (reached-start start most a)
       (λ ys is. subst (λ o. ReadsMoves preceded past o b most room first back (Err f)) is h (on_from readings past future))
 
   -- where a line of the future is refused, so are they
   pub future-refused : (f : LoadFault) (moved : Bench) → moved ≡ at_place past back → WentBack
-      → ReadsMoves appended future b c room room_after moved last (Err f) → ReadsHistory past future a c most first last (Err f)
+      → ReadsMoves appended future b c room room_after moved last (Err f) → ReadsOn start a c most last (Err f)
   future-refused f moved is h k =
-      history-refused past future first last a b c most room (along readings appended ends future moved) f (reached-on moved is h)
+      all-refused start a b c most room (along readings appended ends future moved) f (reached-on moved is h)
       (λ ys there. subst (λ o. ReadsMoves appended future o c room room_after moved last (Err f)) there k ends)
 
   -- where something stands behind the last line, or the source fails there, they are refused
   pub end-refused : (f : LoadFault) (moved : Bench) → moved ≡ at_place past back → WentBack → WentOn moved → ReadsEnd c d room_after (Err f)
-      → ReadsHistory past future a d most first last (Err f)
+      → ReadsOn start a d most last (Err f)
   end-refused f moved is h k end =
-      history-refused past future first last a c d most room_after (ends last) f (reached-last moved is h k)
+      all-refused start a c d most room_after (ends last) f (reached-last moved is h k)
       (λ ys there. subst (λ o. ReadsEnd o d room_after (Err f)) there end (at_place past last))
-
-  at-end : (made : Bench) → made ≡ at_place past last → (x y : Option (List ℕ)) → ReachedFrom start most x y room_after (ends last)
-      → ReadsEnd y d room_after (Ok tt) → ReadsHistory past future x d most first made (Ok tt)
-  at-end made is None y reached end = tt
-  at-end made is (Some xs) None reached end = absurd reached
-  at-end made is (Some xs) (Some ys) reached end = (reached ∙ ap (at_last (at_place past last)) end.0 ∙ ap (λ x. Ok x) (sym is), end.1)
 
   -- where the end is reached, they are read, and the bench is the one that they led to, gone back to where it stood
   pub history-read : (moved made : Bench) → moved ≡ at_place past back → made ≡ at_place past last → WentBack → WentOn moved
-      → ReadsEnd c d room_after (Ok tt) → ReadsHistory past future a d most first made (Ok tt)
-  history-read moved made is made_is h k end = at-end made made_is a c (reached-last moved is h k) end
+      → ReadsEnd c d room_after (Ok tt) → ReadsOn start a d most made (Ok tt)
+  history-read moved made is made_is h k end = at-end start most room_after past last made a c d made_is (reached-last moved is h k) end
 
 -- ---- refusals
 
 abbrev of_taken : List ℕ → Option Bench → Result Bench MoveFault
-of_taken xs o = elim o [ Some bench ↦ Ok bench | None ↦ Err (recorded_fault readings xs) ]
+of_taken xs o = elim o [ Some bench ↦ Ok bench | None ↦ Err (file_fault readings xs) ]
 
-refused-with : (xs : List ℕ) (f : MoveFault) (o : Option Bench) → recorded_bench_in readings xs ≡ o → RecordedFilesAreTaken → of_taken xs o ≡ Err f
-    → IsRefused xs f
+refused-with : (xs : List ℕ) (f : MoveFault) (o : Option Bench) → file_bench_in readings xs ≡ o → FilesAreTaken → of_taken xs o ≡ Err f → IsRefused xs f
 refused-with xs f (Some bench) is files h = absurd cc
 refused-with xs f None is files h = record {
-  taken = is;
-  none = λ bench file. none-some bench (sym is ∙ files readings xs bench file);
+  none = λ format bench file. none-some bench (sym is ∙ files readings format xs bench file);
   fault = ap (told_fault f) h;
 }
   where
@@ -150,11 +209,11 @@ refused-with xs f None is files h = record {
     told_fault d (Err g) = g
 
 -- where what is left is refused, so is the whole
-refused-file : (xs : List ℕ) (f : MoveFault) → FilesAreRead → RecordedFilesAreTaken → file_from readings xs most_bench_bytes ≡ Err f → IsRefused xs f
-refused-file xs f read files h = refused-with xs f (recorded_bench_in readings xs) refl files (sym (read readings xs) ∙ h)
+refused-file : (xs : List ℕ) (f : MoveFault) → FilesAreRead → FilesAreTaken → file_from readings xs most_bench_bytes ≡ Err f → IsRefused xs f
+refused-file xs f read files h = refused-with xs f (file_bench_in readings xs) refl files (sym (read readings xs) ∙ h)
 
 -- where what is left is refused, so is the whole file
-pub reached-refused : (a b c : Option (List ℕ)) (room : ℕ) (reader : Reader) (f : LoadFault) → FilesAreRead → RecordedFilesAreTaken
+pub reached-refused : (a b c : Option (List ℕ)) (room : ℕ) (reader : Reader) (f : LoadFault) → FilesAreRead → FilesAreTaken
     → Reached a b room reader → ((ys : List ℕ) → b ≡ Some ys → ReadRefuses f (reader ys room)) → Loads a c (Err f)
 reached-refused None b c room reader f read files reached refused = tt
 reached-refused (Some xs) None c room reader f read files reached refused = absurd reached
@@ -166,27 +225,19 @@ reached-refused (Some xs) (Some ys) c room reader OutOfMemory read files reached
 
 -- where a part of the file is refused, so is the whole file
 pub part-refused : {X : Type 0} (take : Json → Option X) (go : X → Reader) (a b c : Option (List ℕ)) (room room_after : ℕ) (f : LoadFault) → FilesAreRead
-    → RecordedFilesAreTaken
+    → FilesAreTaken
     → Reached a b room (with_part readings take go) → ReadsPart take b c room room_after (Err f) → Loads a c (Err f)
 part-refused take go a b c room room_after f read files reached part =
     reached-refused a b c room (with_part readings take go) f read files reached
     (λ ys is. subst (λ o. ReadsPart take o c room room_after (Err f)) is part go)
 
--- where a line behind the present object is refused, so is the whole file
-pub later-refused : (past future : ℕ) (old new : Bench) (a b c : Option (List ℕ)) (room : ℕ) (f : LoadFault) → FilesAreRead → RecordedFilesAreTaken
-    → Reached a b room (moves_from readings past future old) → ReadsHistory past future b c room old new (Err f) → Loads a c (Err f)
-later-refused past future old new a b c room f read files reached later =
-    reached-refused a b c room (moves_from readings past future old) f read files reached
-    (λ ys is. subst (λ o. ReadsHistory past future o c room old new (Err f)) is later)
+-- where a line behind the shown state is refused, so is the whole file
+pub rest-refused : (reader : Reader) (a b c : Option (List ℕ)) (room : ℕ) (f : LoadFault) → FilesAreRead → FilesAreTaken
+    → Reached a b room reader → ReadsAll reader b c room (Err f) → Loads a c (Err f)
+rest-refused reader a b c room f read files reached rest =
+    reached-refused a b c room reader f read files reached (λ ys is. subst (λ o. ReadsAll reader o c room (Err f)) is rest)
 
 -- ---- the whole file
-
-few-bytes : (n : ℕ) (o : Option Bench) (bench : Bench) → (if nat_le n most_bench_bytes then o else None) ≡ Some bench → n ≤ most_bench_bytes
-few-bytes n o bench h = by (nat_le n most_bench_bytes) refl h
-  where
-    by : (b : Bool) → nat_le n most_bench_bytes ≡ b → (if b then o else None) ≡ Some bench → n ≤ most_bench_bytes
-    by true e h = grind (arith, nat_tests, e)
-    by false e h = absurd (none-some bench h)
 
 taken-with : (xs : List ℕ) (bench : Bench) (o : Option Bench) → of_taken xs o ≡ Ok bench → o ≡ Some bench
 taken-with xs bench (Some other) h = ap told h
@@ -196,19 +247,13 @@ taken-with xs bench (Some other) h = ap told h
     told (Err g) = None
 taken-with xs bench None h = absurd cc
 
--- where all lines behind the present object are read, the file is loaded: its bench is the one that they led to
-pub loaded : (past future : ℕ) (old bench : Bench) (a b c : Option (List ℕ)) (room : ℕ) → FilesAreRead → TakenIsRecordedText
+-- where all lines behind the shown state are read, the file is loaded: its bench is the one that they led to
+pub loaded : (reader : Reader) (bench : Bench) (a b c : Option (List ℕ)) (room : ℕ) → FilesAreRead → TakenIsFile
     → IsValidBench readings bench → HasReadHistory readings bench.timeline
-    → Reached a b room (moves_from readings past future old) → ReadsHistory past future b c room old bench (Ok tt) → Loads a c (Ok bench)
-loaded past future old bench None b c room read texts valid paths reached later = tt
-loaded past future old bench (Some xs) None c room read texts valid paths reached later = absurd reached
-loaded past future old bench (Some xs) (Some ys) c room read texts valid paths reached later =
-    let taken = taken-with xs bench (recorded_bench_in readings xs) (sym (read readings xs) ∙ reached ∙ later.0) in
-    record {
-      taken = taken;
-      valid = valid;
-      paths = paths;
-      text = texts readings xs bench taken;
-      fits = few-bytes (length xs) _ bench taken;
-      left = later.1;
-    }
+    → Reached a b room reader → ReadsAll reader b c room (Ok bench) → Loads a c (Ok bench)
+loaded reader bench None b c room read files valid paths reached rest = tt
+loaded reader bench (Some xs) None c room read files valid paths reached rest = absurd reached
+loaded reader bench (Some xs) (Some ys) c room read files valid paths reached rest =
+    let taken = taken-with xs bench (file_bench_in readings xs) (sym (read readings xs) ∙ reached ∙ rest.0) in
+    let filed = files readings xs bench taken valid paths in
+    record { format = filed.0; file = filed.1; left = rest.1 }

@@ -1,51 +1,93 @@
--- Laws of loading the moves of a bench, line after line.
-use Rattle.std.proofs.Common.{◌≡◌, ◌<◌, ◌+◌, ◌-◌, ℕ, suc, List, Option, Some, None, sym, ap, subst, ◌∙◌, arith}
+-- Laws of loading the lines along which a bench goes, one after the other.
+use Rattle.std.proofs.Common.{◌≡◌, ◌<◌, ◌+◌, ◌-◌, ℕ, suc, List, Option, Some, None, refl, sym, ap, subst, ◌∙◌, arith}
 use Rattle.std.specs.Prelude.{Result, Ok, Err}
 use Rattle.ssa_model.specs.definitions.Json.{Json}
 use Rattle.ssa_model.specs.definitions.Operations.{State}
-use Rattle.ssa_model.specs.definitions.History.{Bench, Label, present}
-use Rattle.ssa_model.specs.laws.LineByLine.{Move, Reader, after_move, after_value, along, moved_by}
+use Rattle.ssa_model.specs.definitions.History.{Bench, Label, Step, present}
+use Rattle.ssa_model.specs.laws.BenchFiles.{step_in}
+use Rattle.ssa_model.specs.laws.LineByLine.{Move, Reader, after_move, after_part, after_value, along, gone_on, moved_by, steps_from, with_value}
 use Rattle.ssa_model.specs.laws.RecordedBenches.{MoveFault, value_move}
 use Rattle.ssa_json.specs.Readings.{readings}
 use Rattle.ssa_json.specs.View.{view}
 use Rattle.ssa_lines.specs.declared.loading.FileLine.{FileLine}
 use Rattle.ssa_lines.specs.declared.loading.LoadFault.{LoadFault}
 use Rattle.ssa_lines.specs.declared.loading.LoadFault.TheVariants.{BenchText, RecordDoesNotFit, Io, OutOfMemory}
-use Rattle.ssa_bench.specs.Loading.{ReadRefuses, ReadsLine, ReadsMoves}
-use Rattle.ssa_bench.specs.Taking.{MovesBy, Refuses}
+use Rattle.ssa_bench.specs.Loading.{ReadRefuses, ReadsAlong, ReadsLine, ReadsMoves, ReadsSteps, Walk}
+use Rattle.ssa_bench.specs.Taking.{GoesOn, MovesBy, Refuses}
 
 -- so many of the lines were read: what is read of all is what is read of the rest
-abbrev pub Went : Move → ℕ → ℕ → Option (List ℕ) → Option (List ℕ) → ℕ → ℕ → Bench → Bench → Type 0
-Went move count done None now room room_left old bench = Unit {0}
-Went move count done (Some xs) None room room_left old bench = ⊥
-Went move count done (Some xs) (Some ys) room room_left old bench =
-    (go : Bench → Reader) → along readings move go count old xs room ≡ along readings move go (count - done) bench ys room_left
+abbrev pub Went : Walk → ℕ → ℕ → Option (List ℕ) → Option (List ℕ) → ℕ → ℕ → Bench → Bench → Type 0
+Went walk count done None now room room_left old bench = Unit {0}
+Went walk count done (Some xs) None room room_left old bench = ⊥
+Went walk count done (Some xs) (Some ys) room room_left old bench =
+    (go : Bench → Reader) → walk go count old xs room ≡ walk go (count - done) bench ys room_left
 
 -- how reading goes on with a line's value
-abbrev Onward : Move → (Bench → Reader) → ℕ → Bench → Json → Reader
-Onward move go n bench v = after_move (λ m. along readings move go n (moved_by move bench m)) (value_move readings bench (present bench.timeline) v)
+abbrev Onward : Type 0
+Onward = (Bench → Reader) → ℕ → Bench → Json → Reader
 
 one-more : (count done : ℕ) → done < count → count - done ≡ suc (count - (done + 1))
 one-more count done less = omega (arith, less)
 
--- one move more was read: what is read of all is what is read of the rest behind it
-pub went-more : (move : Move) (count done : ℕ) (a b c : Option (List ℕ)) (room room_left room_after : ℕ) (old bench next : Bench) (l : FileLine)
-    → done < count → Went move count done a b room room_left old bench → ReadsLine b c room_left room_after (Ok l)
-    → MovesBy move bench next (Ok tt) (view l.value)
-    → Went move count (done + 1) a c room room_after old next
-went-more move count done None b c room room_left room_after old bench next l less went line moved = tt
-went-more move count done (Some xs) None c room room_left room_after old bench next l less went line moved = absurd went
-went-more move count done (Some xs) (Some ys) c room room_left room_after old bench next l less went line moved =
-    let left = count - (done + 1) in
-    subst (λ d. Went move count (done + 1) (Some xs) d room room_after old next) (sym line.left)
-    (λ go.
-    went go
-    ∙ ap (λ n. along readings move go n bench ys room_left) (one-more count done less)
-    ∙ ap (after_value (Onward move go left bench)) line.next
-    ∙ ap (λ (r : Result (Label × State) MoveFault). after_move (λ m. along readings move go left (moved_by move bench m)) r line.rest room_after) moved.1
-    ∙ ap (λ b. along readings move go left b line.rest room_after) (sym moved.2))
+-- ---- one line more
 
--- ---- refusals
+-- a line is read, and then the others
+module _ (walk : Walk) (onward : Onward)
+    (by_line : (go : Bench → Reader) (n : ℕ) (b : Bench) (xs : List ℕ) (room : ℕ) → walk go (suc n) b xs room ≡ with_value readings (onward go n b) xs room)
+    (count done : ℕ) (less : done < count) where
+  abbrev behind : ℕ
+  behind = count - (done + 1)
+
+  next-line : (go : Bench → Reader) (bench : Bench) (ys : List ℕ) (room_left : ℕ)
+      → walk go (count - done) bench ys room_left ≡ with_value readings (onward go behind bench) ys room_left
+  next-line go bench ys room_left =
+      ap (λ n. walk go n bench ys room_left) (one-more count done less) ∙ by_line go behind bench ys room_left
+
+  -- one line more was read: what is read of all is what is read of the rest behind it
+  more : (a b c : Option (List ℕ)) (room room_left room_after : ℕ) (old bench next : Bench) (l : FileLine)
+      → Went walk count done a b room room_left old bench → ReadsLine b c room_left room_after (Ok l)
+      → ((go : Bench → Reader) (rest : List ℕ) → onward go behind bench (view l.value) rest room_after ≡ walk go behind next rest room_after)
+      → Went walk count (done + 1) a c room room_after old next
+  more None b c room room_left room_after old bench next l went line on = tt
+  more (Some xs) None c room room_left room_after old bench next l went line on = absurd went
+  more (Some xs) (Some ys) c room room_left room_after old bench next l went line on =
+      subst (λ d. Went walk count (done + 1) (Some xs) d room room_after old next) (sym line.left)
+      (λ go. went go ∙ next-line go bench ys room_left ∙ ap (after_value (onward go behind bench)) line.next ∙ on go line.rest)
+
+  -- no line stands next
+  unread : (a b c : Option (List ℕ)) (room room_left room_after : ℕ) (old bench new : Bench) (f : LoadFault)
+      → Went walk count done a b room room_left old bench → ReadsLine b c room_left room_after (Err f)
+      → ReadsAlong walk count a c room room_after old new (Err f)
+  unread None b c room room_left room_after old bench new f went line = tt
+  unread (Some xs) None c room room_left room_after old bench new f went line = absurd went
+  unread (Some xs) (Some ys) c room room_left room_after old bench new f went line =
+      λ go. subst (ReadRefuses f) (sym (went go ∙ next-line go bench ys room_left)) (line (onward go behind bench))
+
+  -- the line that stands next is refused
+  refused : (a b c : Option (List ℕ)) (room room_left room_after : ℕ) (old bench next : Bench) (l : FileLine) (f : LoadFault)
+      → Went walk count done a b room room_left old bench → ReadsLine b c room_left room_after (Ok l)
+      → ((go : Bench → Reader) (rest : List ℕ) → ReadRefuses f (onward go behind bench (view l.value) rest room_after))
+      → ReadsAlong walk count a c room room_after old next (Err f)
+  refused None b c room room_left room_after old bench next l f went line off = tt
+  refused (Some xs) None c room room_left room_after old bench next l f went line off = absurd went
+  refused (Some xs) (Some ys) c room room_left room_after old bench next l f went line off =
+      λ go. subst (ReadRefuses f) (sym (went go ∙ next-line go bench ys room_left ∙ ap (after_value (onward go behind bench)) line.next)) (off go line.rest)
+
+-- ---- moves
+
+abbrev move_onward : Move → Onward
+move_onward move go n bench v = after_move (λ m. along readings move go n (moved_by move bench m)) (value_move readings bench (present bench.timeline) v)
+
+-- one move more was read
+pub went-more : (move : Move) (count done : ℕ) (a b c : Option (List ℕ)) (room room_left room_after : ℕ) (old bench next : Bench) (l : FileLine)
+    → done < count → Went (along readings move) count done a b room room_left old bench → ReadsLine b c room_left room_after (Ok l)
+    → MovesBy move bench next (Ok tt) (view l.value)
+    → Went (along readings move) count (done + 1) a c room room_after old next
+went-more move count done a b c room room_left room_after old bench next l less went line moved =
+    let left = count - (done + 1) in
+    more (along readings move) (move_onward move) (λ go n b xs room. refl) count done less a b c room room_left room_after old bench next l went line
+    (λ go rest. ap (λ (r : Result (Label × State) MoveFault). after_move (λ m. along readings move go left (moved_by move bench m)) r rest room_after) moved.1
+    ∙ ap (λ b. along readings move go left b rest room_after) (sym moved.2))
 
 -- where one result has each fault of the other, a reader with this result refuses for the same reason
 pub refuses-as : {X Y : Type 0} (f : LoadFault) (r : Result X MoveFault) (s : Result Y MoveFault) → ((g : MoveFault) → r ≡ Err g → s ≡ Err g) → Refuses f r
@@ -55,30 +97,62 @@ refuses-as RecordDoesNotFit r s on h = on _ h
 refuses-as Io r s on h = absurd h
 refuses-as OutOfMemory r s on h = tt
 
--- no line stands next
+-- no line of a move stands next
 pub went-unread : (move : Move) (count done : ℕ) (a b c : Option (List ℕ)) (room room_left room_after : ℕ) (old bench new : Bench) (f : LoadFault)
-    → done < count → Went move count done a b room room_left old bench → ReadsLine b c room_left room_after (Err f)
+    → done < count → Went (along readings move) count done a b room room_left old bench → ReadsLine b c room_left room_after (Err f)
     → ReadsMoves move count a c room room_after old new (Err f)
-went-unread move count done None b c room room_left room_after old bench new f less went line = tt
-went-unread move count done (Some xs) None c room room_left room_after old bench new f less went line = absurd went
-went-unread move count done (Some xs) (Some ys) c room room_left room_after old bench new f less went line =
-    λ go. subst (ReadRefuses f) (sym (went go ∙ ap (λ n. along readings move go n bench ys room_left) (one-more count done less)))
-    (line (Onward move go (count - (done + 1)) bench))
+went-unread move count done a b c room room_left room_after old bench new f less went line =
+    unread (along readings move) (move_onward move) (λ go n b xs room. refl) count done less a b c room room_left room_after old bench new f went line
 
--- the line that stands next is refused
+-- the line of a move that stands next is refused
 pub went-refused : (move : Move) (count done : ℕ) (a b c : Option (List ℕ)) (room room_left room_after : ℕ) (old bench next : Bench) (l : FileLine)
     (f : LoadFault)
-    → done < count → Went move count done a b room room_left old bench → ReadsLine b c room_left room_after (Ok l)
+    → done < count → Went (along readings move) count done a b room room_left old bench → ReadsLine b c room_left room_after (Ok l)
     → MovesBy move bench next (Err f) (view l.value)
     → ReadsMoves move count a c room room_after old next (Err f)
-went-refused move count done None b c room room_left room_after old bench next l f less went line moved = tt
-went-refused move count done (Some xs) None c room room_left room_after old bench next l f less went line moved = absurd went
-went-refused move count done (Some xs) (Some ys) c room room_left room_after old bench next l f less went line moved =
+went-refused move count done a b c room room_left room_after old bench next l f less went line moved =
     let left = count - (done + 1) in
-    λ go. subst (ReadRefuses f)
-    (sym (went go ∙ ap (λ n. along readings move go n bench ys room_left) (one-more count done less) ∙ ap (after_value (Onward move go left bench)) line.next))
-    (refuses-as f (value_move readings bench (present bench.timeline) (view l.value)) (Onward move go left bench (view l.value) line.rest room_after)
-    (λ g e. ap (λ (r : Result (Label × State) MoveFault). after_move (λ m. along readings move go left (moved_by move bench m)) r line.rest room_after) e)
+    refused (along readings move) (move_onward move) (λ go n b xs room. refl) count done less a b c room room_left room_after old bench next l f went line
+    (λ go rest. refuses-as f (value_move readings bench (present bench.timeline) (view l.value)) (move_onward move go left bench (view l.value) rest room_after)
+    (λ g e. ap (λ (r : Result (Label × State) MoveFault). after_move (λ m. along readings move go left (moved_by move bench m)) r rest room_after) e)
     moved)
 
--- ---- the end
+-- ---- later states
+
+abbrev step_onward : Onward
+step_onward go n bench v = after_part (λ s. steps_from readings go n (gone_on bench s)) (step_in readings bench (present bench.timeline) v)
+
+-- one state more was read
+pub stepped-more : (count done : ℕ) (a b c : Option (List ℕ)) (room room_left room_after : ℕ) (old bench next : Bench) (l : FileLine)
+    → done < count → Went (steps_from readings) count done a b room room_left old bench → ReadsLine b c room_left room_after (Ok l)
+    → GoesOn bench next (Ok tt) (view l.value)
+    → Went (steps_from readings) count (done + 1) a c room room_after old next
+stepped-more count done a b c room room_left room_after old bench next l less went line on =
+    let left = count - (done + 1) in
+    more (steps_from readings) step_onward (λ go n b xs room. refl) count done less a b c room room_left room_after old bench next l went line
+    (λ go rest. ap (λ (o : Option Step). after_part (λ s. steps_from readings go left (gone_on bench s)) o rest room_after) on.1
+    ∙ ap (λ b. steps_from readings go left b rest room_after) (sym on.2))
+
+-- no line of a state stands next
+pub stepped-unread : (count done : ℕ) (a b c : Option (List ℕ)) (room room_left room_after : ℕ) (old bench new : Bench) (f : LoadFault)
+    → done < count → Went (steps_from readings) count done a b room room_left old bench → ReadsLine b c room_left room_after (Err f)
+    → ReadsSteps count a c room room_after old new (Err f)
+stepped-unread count done a b c room room_left room_after old bench new f less went line =
+    unread (steps_from readings) step_onward (λ go n b xs room. refl) count done less a b c room room_left room_after old bench new f went line
+
+no-step : (bench next : Bench) (v : Json) (f : LoadFault) (go : Bench → Reader) (n : ℕ) (rest : List ℕ) (room : ℕ) → GoesOn bench next (Err f) v
+    → ReadRefuses f (step_onward go n bench v rest room)
+no-step bench next v BenchText go n rest room h = ap (λ (o : Option Step). after_part (λ s. steps_from readings go n (gone_on bench s)) o rest room) h
+no-step bench next v RecordDoesNotFit go n rest room h = absurd h
+no-step bench next v Io go n rest room h = absurd h
+no-step bench next v OutOfMemory go n rest room h = tt
+
+-- the line of a state that stands next is refused
+pub stepped-refused : (count done : ℕ) (a b c : Option (List ℕ)) (room room_left room_after : ℕ) (old bench next : Bench) (l : FileLine) (f : LoadFault)
+    → done < count → Went (steps_from readings) count done a b room room_left old bench → ReadsLine b c room_left room_after (Ok l)
+    → GoesOn bench next (Err f) (view l.value)
+    → ReadsSteps count a c room room_after old next (Err f)
+stepped-refused count done a b c room room_left room_after old bench next l f less went line off =
+    let left = count - (done + 1) in
+    refused (steps_from readings) step_onward (λ go n b xs room. refl) count done less a b c room room_left room_after old bench next l f went line
+    (λ go rest. no-step bench next (view l.value) f go left rest room_after off)

@@ -5,10 +5,11 @@ use Rattle.std.proofs.lemmas.List.Elements.{All-head, All-tail, All-nil, All-con
 use Rattle.ssa_model.specs.definitions.Limits.{most_bench_bytes}
 use Rattle.ssa_model.specs.definitions.Json.{Json}
 use Rattle.ssa_model.specs.definitions.History.{Bench, future_len, past_len, present}
-use Rattle.ssa_model.specs.definitions.BenchText.{whole_object}
+use Rattle.ssa_model.specs.definitions.BenchText.{records, whole_object}
+use Rattle.ssa_model.specs.definitions.Formats.{IsFile}
 use Rattle.ssa_model.specs.definitions.MemberNames.{has_rising_names}
 use Rattle.ssa_model.specs.definitions.BenchFile.{IsSpelled, IsValidBench}
-use Rattle.ssa_model.specs.definitions.RecordedBench.{HasReadHistory, future_lines, future_steps, past_lines, past_steps, record_head, recorded_text, recorded_values, IsRecordedFile}
+use Rattle.ssa_model.specs.definitions.RecordedBench.{HasReadHistory, future_lines, future_steps, past_lines, past_steps, record_head, recorded_text, recorded_values}
 use Rattle.ssa_model.specs.laws.BenchDepths.{IsShallow}
 use Rattle.ssa_json.specs.Readings.{readings}
 use Rattle.ssa_json.specs.Writable.{CompactIsRead, IsOfProgram}
@@ -23,7 +24,7 @@ all-spelled (v ∷ vs) read made shallow =
 
 -- the text of a valid bench whose values the program makes is its file
 pub is-file : (bench : Bench) → CompactIsRead → All IsShallow (recorded_values bench) → IsValidBench readings bench → HasReadHistory readings bench.timeline
-    → All IsOfProgram (recorded_values bench) → length (recorded_text bench) ≤ most_bench_bytes → IsRecordedFile readings (recorded_text bench) bench
+    → All IsOfProgram (recorded_values bench) → length (recorded_text bench) ≤ most_bench_bytes → IsFile readings records (recorded_text bench) bench
 is-file bench read shallow valid paths made fits = record {
   valid = valid;
   paths = paths;

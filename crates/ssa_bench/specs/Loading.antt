@@ -1,13 +1,12 @@
 -- What loading a bench answers.
 use Rattle.std.specs.Prelude.{◌≡◌, ℕ, List, [], Option, Some, None, Result, Ok, Err}
+use Rattle.ssa_model.specs.definitions.BenchText.{Format}
+use Rattle.ssa_model.specs.definitions.Formats.{IsFile}
 use Rattle.ssa_model.specs.definitions.Json.{Json}
 use Rattle.ssa_model.specs.definitions.History.{Bench}
-use Rattle.ssa_model.specs.definitions.BenchFile.{IsValidBench}
-use Rattle.ssa_model.specs.definitions.Limits.{most_bench_bytes}
-use Rattle.ssa_model.specs.definitions.RecordedBench.{HasReadHistory, recorded_text, IsRecordedFile}
-use Rattle.ssa_model.specs.laws.LineByLine.{Move, Reader, along, at_end, ended_with, moves_from, next_value, with_part, with_value}
-use Rattle.ssa_model.specs.laws.RecordedBenches.{MoveFault, no_move_text, record_does_not_fit, recorded_bench_in, recorded_fault}
-use Rattle.std.specs.Prelude.{◌≤◌, length}
+use Rattle.ssa_model.specs.laws.Formats.{file_fault}
+use Rattle.ssa_model.specs.laws.LineByLine.{Move, Reader, along, at_end, ended_with, next_value, steps_from, with_part, with_value}
+use Rattle.ssa_model.specs.laws.RecordedBenches.{MoveFault, no_move_text, record_does_not_fit}
 use Rattle.ssa_json.specs.Readings.{readings}
 use Rattle.ssa_lines.specs.Loading.{IsNextLine}
 use Rattle.ssa_lines.specs.declared.loading.FileLine.{FileLine}
@@ -40,16 +39,30 @@ ReadsPart take None after room room_after r = Unit {0}
 ReadsPart take (Some xs) after room room_after (Ok x) = IsPart take xs after room room_after x
 ReadsPart {X = X} take (Some xs) after room room_after (Err f) = (go : X → Reader) → ReadRefuses f (with_part readings take go xs room)
 
--- the lines of so many moves are read, the bench goes their way, and reading goes on behind them
-pub record HasMoved (move : Move) (count : ℕ) (xs : List ℕ) (after : Option (List ℕ)) (room room_after : ℕ) (old new : Bench) : Type 0 where
+-- ---- lines along which a bench goes
+
+-- how so many lines are read from a bench on, and then what stands behind them
+abbrev pub Walk : Type 0
+Walk = (Bench → Reader) → ℕ → Bench → Reader
+
+-- the lines are read, the bench goes their way, and reading goes on behind them
+pub record HasGone (walk : Walk) (count : ℕ) (xs : List ℕ) (after : Option (List ℕ)) (room room_after : ℕ) (old new : Bench) : Type 0 where
   pub rest : List ℕ
   pub left : after ≡ Some rest
-  pub goes_on : (go : Bench → Reader) → along readings move go count old xs room ≡ go new rest room_after
+  pub goes_on : (go : Bench → Reader) → walk go count old xs room ≡ go new rest room_after
 
+abbrev pub ReadsAlong : Walk → ℕ → Option (List ℕ) → Option (List ℕ) → ℕ → ℕ → Bench → Bench → Result (Unit {0}) LoadFault → Type 0
+ReadsAlong walk count None after room room_after old new r = Unit {0}
+ReadsAlong walk count (Some xs) after room room_after old new (Ok u) = HasGone walk count xs after room room_after old new
+ReadsAlong walk count (Some xs) after room room_after old new (Err f) = (go : Bench → Reader) → ReadRefuses f (walk go count old xs room)
+
+-- the lines of moves
 abbrev pub ReadsMoves : Move → ℕ → Option (List ℕ) → Option (List ℕ) → ℕ → ℕ → Bench → Bench → Result (Unit {0}) LoadFault → Type 0
-ReadsMoves move count None after room room_after old new r = Unit {0}
-ReadsMoves move count (Some xs) after room room_after old new (Ok u) = HasMoved move count xs after room room_after old new
-ReadsMoves move count (Some xs) after room room_after old new (Err f) = (go : Bench → Reader) → ReadRefuses f (along readings move go count old xs room)
+ReadsMoves move = ReadsAlong (along readings move)
+
+-- the lines of later states
+abbrev pub ReadsSteps : ℕ → Option (List ℕ) → Option (List ℕ) → ℕ → ℕ → Bench → Bench → Result (Unit {0}) LoadFault → Type 0
+ReadsSteps = ReadsAlong (steps_from readings)
 
 -- nothing stands behind
 abbrev pub ReadsEnd : Option (List ℕ) → Option (List ℕ) → ℕ → Result (Unit {0}) LoadFault → Type 0
@@ -57,28 +70,29 @@ ReadsEnd None after room r = Unit {0}
 ReadsEnd (Some xs) after room (Ok u) = (next_value readings room xs ≡ at_end) × (after ≡ Some [])
 ReadsEnd (Some xs) after room (Err f) = (b : Bench) → ReadRefuses f (ended_with readings b xs room)
 
--- all lines behind the present object are read, and the bench goes along them, back and then on
-abbrev pub ReadsHistory : ℕ → ℕ → Option (List ℕ) → Option (List ℕ) → ℕ → Bench → Bench → Result (Unit {0}) LoadFault → Type 0
-ReadsHistory past future None after room old new r = Unit {0}
-ReadsHistory past future (Some xs) after room old new (Ok u) = (moves_from readings past future old xs room ≡ Ok new) × (after ≡ Some [])
-ReadsHistory past future (Some xs) after room old new (Err f) = ReadRefuses f (moves_from readings past future old xs room)
+-- all bytes are read, and give this bench
+abbrev pub ReadsAll : Reader → Option (List ℕ) → Option (List ℕ) → ℕ → Result Bench LoadFault → Type 0
+ReadsAll reader None after room r = Unit {0}
+ReadsAll reader (Some xs) after room (Ok bench) = (reader xs room ≡ Ok bench) × (after ≡ Some [])
+ReadsAll reader (Some xs) after room (Err f) = ReadRefuses f (reader xs room)
+
+-- and the bench becomes this one
+abbrev pub ReadsOn : Reader → Option (List ℕ) → Option (List ℕ) → ℕ → Bench → Result (Unit {0}) LoadFault → Type 0
+ReadsOn reader before after room new (Ok u) = ReadsAll reader before after room (Ok new)
+ReadsOn reader before after room new (Err f) = ReadsAll reader before after room (Err f)
 
 -- ---- the bench
 
--- the bytes are the text of the bench, which is valid, and were taken to their end
+-- the bytes are the file of the bench, in one of the formats, and were taken to their end
 pub record IsLoaded (xs : List ℕ) (after : Option (List ℕ)) (bench : Bench) : Type 0 where
-  pub taken : recorded_bench_in readings xs ≡ Some bench
-  pub valid : IsValidBench readings bench
-  pub paths : HasReadHistory readings bench.timeline
-  pub text : xs ≡ recorded_text bench
-  pub fits : length xs ≤ most_bench_bytes
+  pub format : Format
+  pub file : IsFile readings format xs bench
   pub left : after ≡ Some []
 
--- the bytes are no bench's file, and this is the fault of their first line that has one
+-- the bytes are no bench's file in any format, and this is the fault of their first line that has one
 pub record IsRefused (xs : List ℕ) (f : MoveFault) : Type 0 where
-  pub taken : recorded_bench_in readings xs ≡ None
-  pub none : (bench : Bench) → IsRecordedFile readings xs bench → ⊥
-  pub fault : recorded_fault readings xs ≡ f
+  pub none : (format : Format) (bench : Bench) → IsFile readings format xs bench → ⊥
+  pub fault : file_fault readings xs ≡ f
 
 -- Of bytes that the source tells: the bench of which they are the file, or that they are none's, and why.
 abbrev pub Loads : Option (List ℕ) → Option (List ℕ) → Result Bench LoadFault → Type 0

@@ -5,16 +5,21 @@ use Rattle.ssa_model.specs.definitions.Operations as model
 use Rattle.ssa_model.specs.definitions.History.{Bench, Label, present}
 use Rattle.ssa_model.specs.definitions.Takes.{Takes}
 use Rattle.ssa_model.specs.definitions.Valid.{is_named}
-use Rattle.ssa_model.specs.laws.BenchFiles.{given_if, said_label}
-use Rattle.ssa_model.specs.laws.LineByLine.{Move, moved_by}
-use Rattle.ssa_model.specs.laws.RecordedBenches.{Counts, counts_in, is_label_shape, MoveFault, no_move_text, record_does_not_fit, value_move}
+use Rattle.ssa_model.specs.definitions.History as history
+use Rattle.ssa_model.specs.laws.BenchFiles.{given_if, said_label, step_in}
+use Rattle.ssa_model.specs.laws.Formats as formats
+use Rattle.ssa_model.specs.laws.Formats.{file_head}
+use Rattle.ssa_model.specs.laws.LineByLine.{Move, moved_by, gone_on}
+use Rattle.ssa_model.specs.laws.RecordedBenches.{is_label_shape, MoveFault, no_move_text, record_does_not_fit, value_move}
 use Rattle.ssa_json.specs.Readings.{readings}
-use Rattle.ssa_file.specs.declared.head.RecordCounts.{RecordCounts}
+use Rattle.ssa_file.specs.declared.head.FileHead.{FileHead}
+use Rattle.ssa_file.specs.declared.head.FileHead.TheVariants.{States, Records}
 use Rattle.ssa_lines.specs.declared.loading.LoadFault.{LoadFault}
 use Rattle.ssa_lines.specs.declared.loading.LoadFault.TheVariants.{BenchText, RecordDoesNotFit, Io}
 use Rattle.ssa_lines.specs.declared.loading.LoadFault.TheVariants as load
 use Rattle.ssa_schema.specs.declared.fault.SchemaFault.{SchemaFault}
 use Rattle.ssa_schema.specs.declared.fault.SchemaFault.TheVariants as schema
+use Rattle.ssa_merge.specs.States.{state_view}
 use Rattle.ssa_record.specs.declared.read_record.RecordAnswer.{RecordAnswer}
 use Rattle.ssa_record.specs.declared.read_record.RecordAnswer.TheVariants.{NoRecord, Misfit, Fits}
 use Rattle.ssa_turn.specs.Histories.{label_view}
@@ -23,6 +28,7 @@ use Rattle.ssa_turn.specs.TablesBack.{HasTableBack}
 use Rattle.ssa_turn_state.specs.States.{HasStateRoom, state_steps}
 use Rattle.ssa_answers.specs.declared.fault.Fault.{Fault}
 use Rattle.ssa_answers.specs.declared.fault.Fault.TheVariants.{OutOfMemory}
+use Rattle.ssa_bench.specs.declared.state_taking.TakenStep.{TakenStep}
 use Rattle.ssa_bench.specs.declared.taking.Step.{Step}
 
 -- ---- refusals
@@ -54,12 +60,30 @@ Refuses load.OutOfMemory r = Unit {0}
 
 -- ---- the head
 
-abbrev pub counts_view : RecordCounts → Counts
-counts_view c = record { past = c.past; future = c.future }
+-- a head, as the program holds it
+abbrev pub held : formats.FileHead → FileHead
+held (formats.of_states h) = States (record { place = h.place; states = h.states })
+held (formats.of_records c) = Records (record { past = c.past; future = c.future })
 
--- the counts of a line's value, as the program holds them
-abbrev pub held_counts : Json → Option RecordCounts
-held_counts v = option_map (λ (c : Counts). record { past = c.past; future = c.future }) (counts_in v)
+-- the head of a first line's value
+abbrev pub held_head : Json → Option FileHead
+held_head v = option_map held (file_head v)
+
+-- ---- the line of a later state
+
+-- the step that a line tells
+abbrev pub taken_view : TakenStep → history.Step
+taken_view s = record { label = label_view s.label; state = state_view s.state }
+
+-- the step of a value, after the present state
+abbrev pub TakesStep : Bench → Result TakenStep LoadFault → Json → Type 0
+TakesStep bench (Ok s) v = IsTaken (Ok (taken_view s)) (step_in readings bench (present bench.timeline) v)
+TakesStep bench (Err f) v = IsTaken {X = history.Step} (Err f) (step_in readings bench (present bench.timeline) v)
+
+-- the bench goes to that step
+abbrev pub GoesOn : Bench → Bench → Result (Unit {0}) LoadFault → Json → Type 0
+GoesOn old new (Ok u) v = (s : history.Step) × (step_in readings old (present old.timeline) v ≡ Some s) × (new ≡ gone_on old s)
+GoesOn old new (Err f) v = IsTaken {X = history.Step} (Err f) (step_in readings old (present old.timeline) v)
 
 -- ---- the line of a move
 

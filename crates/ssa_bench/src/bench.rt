@@ -5,7 +5,9 @@ ghost use Rattle.ssa_model.specs.definitions.Answers.{answer, apply, update, str
 ghost use Rattle.ssa_model.specs.definitions.Entries.{object_of_state};
 ghost use Rattle.ssa_model.specs.definitions.History.{is_manager_name, past_len, future_len, present};
 ghost use Rattle.ssa_model.specs.definitions.PathMap.{size};
-ghost use Rattle.ssa_model.specs.definitions.RecordedBench.{recorded_text, recorded_values, IsRecordedFile};
+ghost use Rattle.ssa_model.specs.definitions.BenchText.{records};
+ghost use Rattle.ssa_model.specs.definitions.Formats.{IsFile};
+ghost use Rattle.ssa_model.specs.definitions.RecordedBench.{recorded_text, recorded_values};
 ghost use Rattle.ssa_model.specs.definitions.Valid.{IsTable, IsValidState, IsValidBody};
 ghost use Rattle.ssa_json.specs.Readings.{readings};
 ghost use Rattle.ssa_json.specs.View.{view};
@@ -23,6 +25,7 @@ ghost use Rattle.ssa_lines.specs.Saving.{CannotHold, NotSaved};
 mod laws;
 mod lines;
 mod sizes;
+mod state_lines;
 
 use crate::prepared::{Changed, Counts, Prepared, accepted};
 use ssa_answers::change::Command;
@@ -113,7 +116,12 @@ fn given_managers(
 }
 
 // The state that an object file gives, or its first fault.
-fn file_state(alloc: Global, schema: &Schema, object: Json, version: &str) -> Result<State, Fault>
+pub(crate) fn file_state(
+    alloc: Global,
+    schema: &Schema,
+    object: Json,
+    version: &str,
+) -> Result<State, Fault>
     requires { version.now ≡ version_in (view object) }
     ensures given { IsGivenState result (file_state readings schema.now.kind (view object)) }
     ensures valid { IfOk result (λ s. IsValidState schema.now.kind (state_view s)) }
@@ -456,7 +464,7 @@ impl Bench {
         ensures fits { OnOk result (length (recorded_text self.now) ≤ most_bench_bytes) }
 
         // What is written is the bench's file: `load` gives the bench back from it.
-        ensures file { OnOk result (IsRecordedFile readings (recorded_text self.now) self.now) }
+        ensures file { OnOk result (IsFile readings records (recorded_text self.now) self.now) }
         ensures refused { IfErr result (NotSaved S.contents S.has_failed sink.old sink.new (recorded_text self.now)) }
     {
         let text = self.text(alloc)?;

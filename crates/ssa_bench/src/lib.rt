@@ -26,6 +26,7 @@ pub mod bench;
 mod load;
 pub mod prepared;
 mod record_reading;
+mod state_taking;
 mod taking;
 
 pub use bench::{Bench, MOST_PAST};

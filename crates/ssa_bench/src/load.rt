@@ -1,26 +1,26 @@
 //! A bench is taken from its file, line by line.
-ghost use Rattle.std.specs.Prelude.{◌≡◌, ◌≤◌, ◌+◌, true, Err, IfOk, OnOk, length};
+ghost use Rattle.std.specs.Prelude.{◌≡◌, ◌≤◌, ◌<◌, ◌+◌, true, Err, IfOk, OnOk, length};
 ghost use Rattle.ssa_model.specs.definitions.Answers.{lone_state};
 ghost use Rattle.ssa_model.specs.definitions.History.{appended, past_len};
 ghost use Rattle.ssa_model.specs.definitions.Json.{compact};
 ghost use Rattle.ssa_model.specs.definitions.Limits.{most_past};
 ghost use Rattle.ssa_model.specs.laws.BenchFiles.{schema_in};
-ghost use Rattle.ssa_model.specs.laws.LineByLine.{preceded};
-ghost use Rattle.ssa_model.specs.laws.RecordedBenches.{present_in};
+ghost use Rattle.ssa_model.specs.laws.LineByLine.{later_from, moves_from, preceded, rest_from, shown_in};
 ghost use Rattle.ssa_json.specs.Readings.{readings};
 ghost use Rattle.ssa_json.specs.View.{view};
 ghost use Rattle.ssa_json.specs.Writable.{IsOfProgram};
+ghost use Rattle.ssa_file.specs.Heads.{IsFew, head_view, place_view};
 ghost use Rattle.ssa_lines.specs.declared.loading.LoadFault.TheVariants.{Io};
-ghost use Rattle.ssa_bench.specs.Loading.{Loads, ReadsEnd, ReadsHistory, ReadsLine, ReadsMoves, ReadsPart};
-ghost use Rattle.ssa_bench.specs.Taking.{held_counts};
+ghost use Rattle.ssa_bench.specs.Loading.{Loads, ReadsEnd, ReadsLine, ReadsMoves, ReadsOn, ReadsPart, ReadsSteps};
+ghost use Rattle.ssa_bench.specs.Taking.{held_head};
 
 use crate::bench::Bench;
-use crate::taking::{counts_of, schema_of};
-use ssa_file::head::RecordCounts;
+use crate::taking::{head_of, schema_of};
+use ssa_file::head::{FileHead, RecordCounts, StatePlace};
 use ssa_json::source::Source;
 use ssa_lines::loading::{FileLine, LoadFault, read_value};
 use ssa_lines::saving::MOST_FILE_BYTES;
-use ssa_model::records::{recorded_files, recorded_lines};
+use ssa_model::files::{files_are_read, files_are_taken};
 use ssa_schema::schema::Schema;
 use std::alloc::Global;
 
@@ -41,18 +41,18 @@ fn next_line<R: Source>(
     }
 }
 
-// Reads the first line: how many commands can be undone, and how many redone.
-fn read_counts<R: Source>(
+// Reads the first line: the format, and the numbers that stand there.
+fn read_head<R: Source>(
     alloc: Global,
     reader: &mut R,
     room: &mut usize,
-) -> Result<RecordCounts, LoadFault>
-    ensures few { IfOk result (λ c. c.past + c.future ≤ most_past) }
-    ensures read { ReadsPart held_counts (R.remaining reader.old) (R.remaining reader.new) room.old room.new result }
+) -> Result<FileHead, LoadFault>
+    ensures few { IfOk result IsFew }
+    ensures read { ReadsPart held_head (R.remaining reader.old) (R.remaining reader.new) room.old room.new result }
     ensures failed { result ≡ Err LoadFault.Io → R.has_failed reader.new ≡ true }
 {
     let line = next_line(alloc, reader, room)?;
-    counts_of(alloc, &line)
+    head_of(alloc, &line)
 }
 
 // Reads the second line: the schema.
@@ -68,19 +68,44 @@ fn read_schema<R: Source>(
     schema_of(alloc, line.value)
 }
 
-// Reads the third line: the present object, and with it the bench of that state.
-fn read_present<R: Source>(
+// Reads the third line: the first state or the present one, by the format, and with it the bench of that state.
+fn read_shown<R: Source>(
     alloc: Global,
     reader: &mut R,
     room: &mut usize,
+    head: &FileHead,
     schema: Schema,
 ) -> Result<Bench, LoadFault>
     ensures lone { IfOk result (λ b. b.timeline ≡ lone_state b.timeline.first) }
-    ensures read { ReadsPart (present_in readings schema) (R.remaining reader.old) (R.remaining reader.new) room.old room.new result }
+    ensures read { ReadsPart (shown_in readings (head_view head.now) schema) (R.remaining reader.old) (R.remaining reader.new) room.old room.new result }
     ensures failed { result ≡ Err LoadFault.Io → R.has_failed reader.new ≡ true }
 {
     let line = next_line(alloc, reader, room)?;
-    Bench::of_present_line(alloc, schema, line)
+    Bench::of_shown_line(alloc, head, schema, line)
+}
+
+// Reads the lines of so many later states, and goes on along them.
+fn read_steps<R: Source>(
+    alloc: Global,
+    reader: &mut R,
+    room: &mut usize,
+    bench: &mut Bench,
+    count: usize,
+    number: &mut usize,
+) -> Result<(), LoadFault>
+    requires few { past_len bench.old.timeline + count ≤ most_past }
+    ensures read { ReadsSteps count (R.remaining reader.old) (R.remaining reader.new) room.old room.new bench.old bench.new result }
+    ensures many { OnOk result (past_len bench.new.timeline ≡ past_len bench.old.timeline + count) }
+    ensures within { OnOk result (past_len bench.new.timeline ≤ length bench.new.timeline.later) }
+    ensures failed { result ≡ Err LoadFault.Io → R.has_failed reader.new ≡ true }
+{
+    for _ in 0..count {
+        *number = number.saturating_add(1);
+        let line = next_line(alloc, reader, room)?;
+        bench.take_line(alloc, line)?;
+    }
+    bench.place_is_within();
+    Ok(())
 }
 
 // Reads the lines of the past, and goes back along them.
@@ -141,7 +166,29 @@ fn read_end<R: Source>(alloc: Global, reader: &mut R, room: &mut usize) -> Resul
     }
 }
 
-// Reads the lines behind the present object, to the end of the file, and has the bench go along them.
+// Reads the lines behind the first state, to the end of a file of whole states, and has the bench go along them and to the place.
+fn read_later<R: Source>(
+    alloc: Global,
+    reader: &mut R,
+    room: &mut usize,
+    bench: &mut Bench,
+    place: &StatePlace,
+    number: &mut usize,
+) -> Result<(), LoadFault>
+    requires lone { bench.old.timeline ≡ lone_state bench.old.timeline.first }
+    requires within { place.now.place < place.now.states }
+    requires few { place.now.states ≤ most_past + 1 }
+    ensures read { ReadsOn (later_from readings (place_view place.now) bench.old) (R.remaining reader.old) (R.remaining reader.new) room.old bench.new result }
+    ensures failed { result ≡ Err LoadFault.Io → R.has_failed reader.new ≡ true }
+{
+    read_steps(alloc, reader, room, bench, place.states - 1, number)?;
+    *number = number.saturating_add(1);
+    read_end(alloc, reader, room)?;
+    bench.go_to(place.place);
+    Ok(())
+}
+
+// Reads the lines behind the present object, to the end of a file of records, and has the bench go along them.
 fn read_history<R: Source>(
     alloc: Global,
     reader: &mut R,
@@ -152,7 +199,7 @@ fn read_history<R: Source>(
 ) -> Result<(), LoadFault>
     requires lone { bench.old.timeline ≡ lone_state bench.old.timeline.first }
     requires few { counts.now.past + counts.now.future ≤ most_past }
-    ensures read { ReadsHistory counts.now.past counts.now.future (R.remaining reader.old) (R.remaining reader.new) room.old bench.old bench.new result }
+    ensures read { ReadsOn (moves_from readings counts.now.past counts.now.future bench.old) (R.remaining reader.old) (R.remaining reader.new) room.old bench.new result }
     ensures failed { result ≡ Err LoadFault.Io → R.has_failed reader.new ≡ true }
 {
     read_past(alloc, reader, room, bench, counts.past, number)?;
@@ -164,19 +211,42 @@ fn read_history<R: Source>(
     Ok(())
 }
 
+// Reads all that stands behind the state that the third line shows, by the format.
+fn read_rest<R: Source>(
+    alloc: Global,
+    reader: &mut R,
+    room: &mut usize,
+    bench: &mut Bench,
+    head: &FileHead,
+    number: &mut usize,
+) -> Result<(), LoadFault>
+    requires lone { bench.old.timeline ≡ lone_state bench.old.timeline.first }
+    requires few { IsFew head.now }
+    ensures read { ReadsOn (rest_from readings (head_view head.now) bench.old) (R.remaining reader.old) (R.remaining reader.new) room.old bench.new result }
+    ensures failed { result ≡ Err LoadFault.Io → R.has_failed reader.new ≡ true }
+{
+    match head {
+        FileHead::States(place) => read_later(alloc, reader, room, bench, place, number),
+        FileHead::Records(counts) => read_history(alloc, reader, room, bench, counts, number),
+    }
+}
+
 impl Bench {
-    /// Takes a bench from its file: the text that [`save`](Bench::save) writes of it, and nothing else.
+    /// Takes a bench from its file: the text of the bench in one of the formats, and nothing else.
     ///
-    /// Reads line by line, and holds one line beside the bench that it makes: the present object first,
-    /// then the records that lead back from it, and those that lead on. Each record's room is made on
-    /// the way, so that undo and redo take no memory. Of several faulty lines the first is told.
-    /// `BenchText` is answered for a line that is not as `save` would write it: another spelling of a
-    /// value, a schema, an object or an entry that is refused, a label that no command gives, what has
-    /// not the shape of a record; for a wrong count of lines; for more commands than can be undone;
+    /// The first line says the format. In format 2, which [`save`](Bench::save) writes, the present object
+    /// stands first, then the records that lead back from it, and those that lead on; in format 1 all
+    /// states stand there, from the first on, each as its object. Reads line by line, and holds one line
+    /// beside the bench that it makes. Each record's room is made on the way, so that undo and redo take
+    /// no memory. Of several faulty lines the first is told.
+    /// `BenchText` is answered for a line that is not as it is written in the format: another spelling of
+    /// a value, a schema, an object or an entry that is refused, a label that no command gives, what has
+    /// not the shape of a record, in format 1 managers in another order than before; for a first line of
+    /// neither format; for a wrong count of lines; for more commands than can be undone;
     /// and for more than [`MOST_FILE_BYTES`](ssa_lines::saving::MOST_FILE_BYTES) bytes.
     /// `RecordDoesNotFit` is answered for a record that is none from the state that it is told of to a
     /// valid one. Of what the commands of the history do nothing is asked: their states are taken as
-    /// the records lead to them.
+    /// they stand there, or as the records lead to them.
     pub fn load<R: Source>(alloc: Global, reader: &mut R) -> Result<Bench, LoadFault>
         // A bench is taken exactly from its file; of want of memory and of a failed reader nothing is said.
         ensures loaded { Loads (R.remaining reader.old) (R.remaining reader.new) result }
@@ -196,16 +266,16 @@ impl Bench {
         ensures loaded { Loads (R.remaining reader.old) (R.remaining reader.new) result }
         ensures failed { result ≡ Err LoadFault.Io → R.has_failed reader.new ≡ true }
     {
-        recorded_lines();
-        recorded_files();
+        files_are_read();
+        files_are_taken();
         let mut room = MOST_FILE_BYTES;
         *number = 1;
-        let counts = read_counts(alloc, reader, &mut room)?;
+        let head = read_head(alloc, reader, &mut room)?;
         *number = 2;
         let schema = read_schema(alloc, reader, &mut room)?;
         *number = 3;
-        let mut bench = read_present(alloc, reader, &mut room, schema)?;
-        read_history(alloc, reader, &mut room, &mut bench, &counts, number)?;
+        let mut bench = read_shown(alloc, reader, &mut room, &head, schema)?;
+        read_rest(alloc, reader, &mut room, &mut bench, &head, number)?;
         bench.is_valid();
         bench.paths_are_read();
         Ok(bench)

@@ -1,14 +1,13 @@
 //! The parts of a bench file's lines.
-ghost use Rattle.std.specs.Prelude.{◌≡◌, ◌≤◌, ◌+◌, IfOk, option_map};
-ghost use Rattle.ssa_model.specs.definitions.Json.{compact};
-ghost use Rattle.ssa_model.specs.definitions.Limits.{most_past};
+ghost use Rattle.std.specs.Prelude.{◌≡◌, IfOk, option_map};
 ghost use Rattle.ssa_model.specs.laws.BenchFiles.{schema_in};
 ghost use Rattle.ssa_json.specs.View.{view};
 ghost use Rattle.ssa_turn.specs.Histories.{label_view};
-ghost use Rattle.ssa_bench.specs.Taking.{IsTaken, answered_step, held_counts, load_fault, of_schema_fault, written_label};
+ghost use Rattle.ssa_file.specs.Heads.{IsFew};
+ghost use Rattle.ssa_bench.specs.Taking.{IsTaken, answered_step, held_head, load_fault, of_schema_fault, written_label};
 
 use ssa_answers::fault::Fault;
-use ssa_file::head::{RecordCounts, record_counts};
+use ssa_file::head::{FileHead, file_head};
 use ssa_json::value::Json;
 use ssa_lines::loading::{FileLine, LoadFault};
 use ssa_lines::written::is_text_of;
@@ -67,13 +66,13 @@ pub(crate) fn schema_of(alloc: Global, value: Json) -> Result<Schema, LoadFault>
     }
 }
 
-// How many commands can be undone and redone, as a line says.
-pub(crate) fn counts_of(alloc: Global, line: &FileLine) -> Result<RecordCounts, LoadFault>
-    ensures few { IfOk result (λ c. c.past + c.future ≤ most_past) }
-    ensures taken { IsTaken result (held_counts (view line.now.value)) }
+// What a first line says.
+pub(crate) fn head_of(alloc: Global, line: &FileLine) -> Result<FileHead, LoadFault>
+    ensures few { IfOk result IsFew }
+    ensures taken { IsTaken result (held_head (view line.now.value)) }
 {
-    match record_counts(alloc, &line.value)? {
-        Some(counts) => Ok(counts),
+    match file_head(alloc, &line.value)? {
+        Some(head) => Ok(head),
         None => Err(LoadFault::BenchText),
     }
 }

@@ -1,23 +1,44 @@
-//! The first line of a bench file.
-ghost use Rattle.std.specs.Prelude.{◌≡◌, ◌<◌, ◌^◌, IfOk, IfSome, option_map};
+//! The first line of a bench file: in which format the file is, and the numbers that stand there.
+ghost use Rattle.std.specs.Prelude.{◌≡◌, ◌≤◌, ◌<◌, ◌+◌, ◌^◌, IfOk, IfSome, option_map};
+ghost use Rattle.ssa_model.specs.definitions.BenchText.{head_of};
 ghost use Rattle.ssa_model.specs.definitions.Json.{member_at};
-ghost use Rattle.ssa_model.specs.laws.BenchFiles.{number_in};
+ghost use Rattle.ssa_model.specs.definitions.Limits.{most_past};
+ghost use Rattle.ssa_model.specs.laws.BenchFiles.{head_in, is_written_as, number_in};
+ghost use Rattle.ssa_model.specs.laws.Formats.{file_head};
 ghost use Rattle.ssa_model.specs.laws.RecordedBenches.{counts_in};
 ghost use Rattle.ssa_json.specs.View.{view};
+ghost use Rattle.ssa_file.specs.Heads.{IsFew, counts_view, head_view, place_view};
 
-use crate::recording::record_head;
+use crate::recording::{put_number, record_head};
 use ssa_json::value::{Json, Scalar};
 use ssa_lines::written::is_text_of;
+use ssa_members::Members;
 use std::alloc::{AllocError, Global};
 
-// The most commands of a bench file of records.
+// The most commands of a bench file.
 const MOST_COMMANDS: usize = 1_000;
+
+/// The place of the present state in a bench file of whole states, and how many states it has.
+#[derive(Clone, Copy, Debug, PartialEq, Eq)]
+pub struct StatePlace {
+    pub place: usize,
+    pub states: usize,
+}
 
 /// How many commands a bench file of records has: those that can be undone, and those that can be redone.
 #[derive(Clone, Copy, Debug, PartialEq, Eq)]
 pub struct RecordCounts {
     pub past: usize,
     pub future: usize,
+}
+
+/// What the first line of a bench file says, by the file's format.
+#[derive(Clone, Copy, Debug, PartialEq, Eq)]
+pub enum FileHead {
+    /// Format 1: all states, each as its object.
+    States(StatePlace),
+    /// Format 2: the present object, and records that lead to the other states.
+    Records(RecordCounts),
 }
 
 // The member's number, where it is one and no less than 0.
@@ -31,9 +52,54 @@ fn number_in(value: &Json, name: &str) -> Option<usize>
     }
 }
 
+// Whether the value is written as another one.
+fn is_written_as(alloc: Global, value: &Json, other: &Json) -> Result<bool, AllocError>
+    ensures { IfOk result (λ same. same ≡ is_written_as (view other.now) (view value.now)) }
+{
+    let text = value.to_text(alloc)?;
+    is_text_of(alloc, other, &text)
+}
+
+// The value of the first line of a file of whole states.
+fn state_head(alloc: Global, place: usize, states: usize) -> Result<Json, AllocError>
+    requires place { place < 2 ^ 63 }
+    requires states { states < 2 ^ 63 }
+    ensures { IfOk result (λ v. view v ≡ head_of place states) }
+{
+    let mut members = Members::new(alloc);
+    put_number(alloc, &mut members, "states", states)?;
+    put_number(alloc, &mut members, "place", place)?;
+    put_number(alloc, &mut members, "format", 1)?;
+    Ok(Json::Object(members))
+}
+
+// The place that the value of a first line says, where it is written so: that of one of the states, of which there are no
+// more than 1,001.
+fn state_place(alloc: Global, value: &Json) -> Result<Option<StatePlace>, AllocError>
+    ensures is { IfOk result (λ o. option_map place_view o ≡ head_in (view value.now)) }
+    ensures few { IfOk result (λ o. IfSome o (λ p. (p.place < p.states) × (p.states ≤ most_past + 1))) }
+{
+    let Some(place) = number_in(value, "place") else {
+        return Ok(None);
+    };
+    let Some(states) = number_in(value, "states") else {
+        return Ok(None);
+    };
+    if place >= states || states > MOST_COMMANDS + 1 {
+        return Ok(None);
+    }
+    let written = state_head(alloc, place, states)?;
+    if is_written_as(alloc, value, &written)? {
+        Ok(Some(StatePlace { place, states }))
+    } else {
+        Ok(None)
+    }
+}
+
 /// The counts that the value of a first line says, where it is written so, and no more than 1,000 in all.
 pub fn record_counts(alloc: Global, value: &Json) -> Result<Option<RecordCounts>, AllocError>
-    ensures { IfOk result (λ o. option_map (λ c. record { past = c.past; future = c.future }) o ≡ counts_in (view value.now)) }
+    ensures is { IfOk result (λ o. option_map counts_view o ≡ counts_in (view value.now)) }
+    ensures few { IfOk result (λ o. IfSome o (λ c. c.past + c.future ≤ most_past)) }
 {
     let Some(past) = number_in(value, "past") else {
         return Ok(None);
@@ -45,10 +111,23 @@ pub fn record_counts(alloc: Global, value: &Json) -> Result<Option<RecordCounts>
         return Ok(None);
     }
     let written = record_head(alloc, past, future)?;
-    let text = value.to_text(alloc)?;
-    if is_text_of(alloc, &written, &text)? {
+    if is_written_as(alloc, value, &written)? {
         Ok(Some(RecordCounts { past, future }))
     } else {
         Ok(None)
+    }
+}
+
+/// What the value of a first line says, none where it is written as that of no format.
+pub fn file_head(alloc: Global, value: &Json) -> Result<Option<FileHead>, AllocError>
+    ensures is { IfOk result (λ o. option_map head_view o ≡ file_head (view value.now)) }
+    ensures few { IfOk result (λ o. IfSome o IsFew) }
+{
+    if let Some(place) = state_place(alloc, value)? {
+        return Ok(Some(FileHead::States(place)));
+    }
+    match record_counts(alloc, value)? {
+        Some(counts) => Ok(Some(FileHead::Records(counts))),
+        None => Ok(None),
     }
 }

@@ -1,7 +1,7 @@
-//! Bench files: a bench as a text, and the head of one.
+//! Bench files: a bench as a text, and the first lines of files.
 //!
-//! What a bench is as a text is written by [`recorded_text`]; its first line, the head, says how many
-//! commands it has, which [`record_counts`] reads.
+//! What a bench is as a text is written by [`recorded_text`]; the first line of a file, its head, says the
+//! format, which [`file_head`] reads, and in this one how many commands there are, as [`record_counts`] tells.
 //!
 //! ```
 //! let head = json(rt.alloc(), r#"{"format":2,"future":0,"past":1}"#)?;
@@ -12,6 +12,7 @@
 
 pub mod head;
 pub mod recording;
+pub mod state_line;
 
-pub use head::{RecordCounts, record_counts};
+pub use head::{FileHead, RecordCounts, StatePlace, file_head, record_counts};
 pub use recording::{record_head, recorded_text};

@@ -32,7 +32,7 @@ use ssa_turn_state::live_state::StateDelta;
 use std::alloc::{AllocError, Global};
 
 // Puts a number in its place among members.
-fn put_number(
+pub(crate) fn put_number(
     alloc: Global,
     members: &mut Members<Json>,
     name: &str,

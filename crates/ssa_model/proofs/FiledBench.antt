@@ -1,4 +1,4 @@
--- The sample's bench file is one: what is asked of a bench file is met.
+-- The sample's file of whole states is a bench file: what is asked of one is met.
 use Rattle.std.proofs.Common.{◌≡◌, ◌≤◌, ℕ, List, [], ◌∷◌, ◌++◌, length, true, false, not, refl, ap, ◌∙◌, arith, nat_lt, nat_le}
 use Rattle.std.proofs.lemmas.Bool.Decides.{nat_tests}
 use Rattle.std.proofs.lemmas.List.Elements.{All-nil, All-cons}
@@ -11,14 +11,17 @@ use Rattle.ssa_model.specs.definitions.Body.{Body, modified}
 use Rattle.ssa_model.specs.definitions.Table.{ManagerKey}
 use Rattle.ssa_model.specs.definitions.Objects.{body_value}
 use Rattle.ssa_model.specs.definitions.Operations.{State, clashes, conflict, too_many_paths, too_many_managers, is_none, if_seated, apply_target, apply}
-use Rattle.ssa_model.specs.definitions.BenchText.{head_json, first_json, step_json, bench_values, bench_text}
+use Rattle.ssa_model.specs.definitions.Formats.{IsFile}
+use Rattle.ssa_model.specs.definitions.RecordedBench.{HasReadStep, HasReadHistory}
+use Rattle.ssa_model.specs.definitions.BenchText.{states, head_json, first_json, step_json, bench_values, bench_text}
 use Rattle.ssa_model.specs.definitions.Valid.{IsValidState, MakesValid}
 use Rattle.ssa_model.specs.definitions.BenchFile.{IsSpelled, IsStep, IsValidBench}
 use Rattle.ssa_model.specs.examples.Sample.{sample_kind}
 use Rattle.ssa_model.specs.examples.Rows.{new_bench, with_replicas}
-use Rattle.ssa_model.specs.examples.FileRows.{value_among, readings_of, m1_applies, three_replicas, applied_step, filed, BenchFileIsMet}
+use Rattle.ssa_model.specs.examples.FileRows.{value_among, readings_of, m1_applies, three_replicas, applied_step, filed}
 use Rattle.ssa_model.proofs.FlatFits.{flat_fits}
 use Rattle.ssa_model.proofs.FlatRooted.{flat_is_rooted}
+use Rattle.ssa_model.proofs.ReadPaths.{read-paths-of}
 use Rattle.ssa_model.proofs.Tables.{text-itself, strip_keeps}
 use Rattle.ssa_model.proofs.ValidStates.{apply_keeps_valid}
 use Rattle.ssa_model.proofs.Basics.{first_false, second_false, le-of}
@@ -80,6 +83,17 @@ values-spelled =
 -- ---- the bench and its file
 
 module _ (vs : List Json) where
+  -- the paths of its states are read from their texts
+  pub read-history : HasReadHistory (readings_of vs) filed.timeline
+  read-history =
+      let readings = readings_of vs in
+      record {
+        first = read-paths-of readings filed.timeline.first.body (tt, tt);
+        later = All-cons (HasReadStep readings) applied_step []
+            (read-paths-of readings applied_step.state.body (tt, ((refl, tt), ((refl, (refl, tt)), tt))))
+            (All-nil (HasReadStep readings));
+      }
+
   step-is : IsStep (readings_of vs) applied_step
   step-is = record { label = (refl, refl); table = (record { no_fault = refl; says = refl; moment = refl }, tt) }
 
@@ -98,9 +112,10 @@ module _ (vs : List Json) where
   }
 
 -- the bench file
-pub bench_file_is_met : BenchFileIsMet
-bench_file_is_met = record {
+pub states_file_is_met : IsFile (readings_of (bench_values filed)) states (bench_text filed) filed
+states_file_is_met = record {
   valid = filed-valid (bench_values filed);
+  paths = read-history (bench_values filed);
   text = refl;
   fits = le-of (length (bench_text filed)) most_bench_bytes refl;
   spelled = values-spelled;

@@ -5,28 +5,20 @@ use Rattle.std.specs.List.{All}
 use Rattle.std.specs.Prelude.{codes}
 use Rattle.ssa_model.specs.definitions.Limits.{most_bench_bytes}
 use Rattle.ssa_model.specs.definitions.Json.{list, no_items}
-use Rattle.ssa_model.specs.definitions.BenchText.{whole_object}
+use Rattle.ssa_model.specs.definitions.BenchText.{states, records, whole_object}
+use Rattle.ssa_model.specs.definitions.Formats.{IsFile}
 use Rattle.ssa_model.specs.definitions.BenchFile.{IsReadBack, IsStep, IsSpelled}
 use Rattle.ssa_model.specs.definitions.Operations.{State}
 use Rattle.ssa_model.specs.definitions.RecordReading.{member_in, HasReadPaths}
 use Rattle.ssa_model.specs.definitions.Valid.{AllEntries, IsValidState}
-use Rattle.ssa_model.specs.definitions.RecordedBench.{record_head, record_line, recorded_values, recorded_text, HasReadStep, HasReadHistory}
+use Rattle.ssa_model.specs.definitions.RecordedBench.{record_head, record_line, recorded_values, recorded_text, HasReadStep}
 use Rattle.ssa_model.specs.laws.RecordedMoves.{IsReadBackState}
 use Rattle.ssa_model.specs.examples.Sample.{sample_kind}
 use Rattle.ssa_model.specs.examples.FileRows.{readings_of, applied_step, filed}
-use Rattle.ssa_model.specs.examples.RecordedRows.{one_gone, RecordedFileIsMet, RecordedMovesAreMet}
-use Rattle.ssa_model.proofs.FiledBench.{spelled-in, filed-valid, first-valid, applied-valid}
-use Rattle.ssa_model.proofs.ReadPaths.{read-paths-of}
+use Rattle.ssa_model.specs.examples.RecordedRows.{one_gone, RecordedMovesAreMet}
+use Rattle.ssa_model.specs.examples.FormatRows.{FilesAreMet}
+use Rattle.ssa_model.proofs.FiledBench.{spelled-in, read-history, filed-valid, first-valid, applied-valid, states_file_is_met}
 use Rattle.ssa_model.proofs.Basics.{le-of}
-
-read-history : HasReadHistory (readings_of (recorded_values filed)) filed.timeline
-read-history =
-    let readings = readings_of (recorded_values filed) in
-    record {
-      first = read-paths-of readings filed.timeline.first.body (tt, tt);
-      later = All-cons (HasReadStep readings) applied_step [] (read-paths-of readings applied_step.state.body (tt, ((refl, tt), ((refl, (refl, tt)), tt))))
-          (All-nil (HasReadStep readings));
-    }
 
 values-spelled : All (IsSpelled (readings_of (recorded_values filed))) (recorded_values filed)
 values-spelled =
@@ -41,14 +33,19 @@ values-spelled =
     (All-cons (IsSpelled readings) last [] (spelled-in (head ∷ source ∷ now ∷ []) last [] refl) (All-nil (IsSpelled readings)))))
 
 -- the sample's bench has a bench file of records
-pub recorded_file_is_met : RecordedFileIsMet
-recorded_file_is_met = record {
+records_file_is_met : IsFile (readings_of (recorded_values filed)) records (recorded_text filed) filed
+records_file_is_met = record {
   valid = filed-valid (recorded_values filed);
-  paths = read-history;
+  paths = read-history (recorded_values filed);
   text = refl;
   fits = le-of (length (recorded_text filed)) most_bench_bytes refl;
   spelled = values-spelled;
 }
+
+-- and one in each format
+pub files_are_met : FilesAreMet
+files_are_met states = states_file_is_met
+files_are_met records = records_file_is_met
 
 -- ---- one line
 
@@ -62,8 +59,8 @@ recorded_moves_are_met =
     let good = filed-valid (recorded_values filed) in
     let readings = readings_of (recorded_values filed) in (
       record { accepted = good.accepted; named = good.named },
-      read-back filed.timeline.first first-valid read-history.first good.first,
-      read-back applied_step.state applied-valid (All-head (HasReadStep readings) applied_step [] read-history.later)
+      read-back filed.timeline.first first-valid (read-history (recorded_values filed)).first good.first,
+      read-back applied_step.state applied-valid (All-head (HasReadStep readings) applied_step [] (read-history (recorded_values filed)).later)
           (All-head (IsStep readings) applied_step [] good.steps).table,
       (All-head (IsStep readings) applied_step [] good.steps).label,
       good.order.0,

@@ -27,7 +27,8 @@ use Rattle.ssa_model.proofs.WrittenOfTaken.{schema-from}
 
 -- ---- the head and the present object
 
-counts-from : (v : Json) (c : Counts) → counts_in v ≡ Some c → compact v ≡ compact (record_head c.past c.future)
+-- the counts that are taken of a head are those with which it is written
+pub counts-from : (v : Json) (c : Counts) → counts_in v ≡ Some c → compact v ≡ compact (record_head c.past c.future)
 counts-from v c is =
     let past = and_then-back _ (number_in (member_at (codes "past") v)) c is in
     let future = and_then-back _ (number_in (member_at (codes "future") v)) c past.2 in

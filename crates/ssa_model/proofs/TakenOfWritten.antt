@@ -1,11 +1,11 @@
 -- From the values that are written of a valid bench the bench is taken, and from its file.
-use Rattle.std.proofs.Common.{◌≡◌, ◌≤◌, ℕ, ◌+◌, length, List, [], ◌∷◌, map, true, Option, Some, None, option_map, option_and_then, refl, sym, ap, ◌∙◌, subst, arith}
+use Rattle.std.proofs.Common.{◌≡◌, ◌≤◌, ℕ, ◌+◌, length, List, [], ◌∷◌, map, true, ◌&&◌, Option, Some, None, option_map, option_and_then, refl, sym, ap, ◌∙◌, arith}
 use Rattle.std.proofs.lemmas.Bool.{and_from, and_parts}
 use Rattle.std.proofs.lemmas.Bool.Decides.{nat_tests}
 use Rattle.std.proofs.lemmas.List.Elements.{All-head, All-tail}
 use Rattle.std.specs.Cmp.Lexicographic.{pointwise}
 use Rattle.std.specs.List.{All}
-use Rattle.std.specs.Prelude.{if◌then◌else◌, ◌==◌, nat_le, Result, Ok, Err}
+use Rattle.std.specs.Prelude.{if◌then◌else◌, ◌==◌, nat_lt, nat_le, Result, Ok, Err}
 use Rattle.ssa_model.specs.definitions.Limits.{most_past, most_bench_bytes}
 use Rattle.ssa_model.specs.definitions.Json.{Text, Json, compact}
 use Rattle.ssa_model.specs.definitions.Readings.{Readings}
@@ -18,7 +18,7 @@ use Rattle.ssa_model.specs.definitions.Replies.{label_json}
 use Rattle.ssa_model.specs.definitions.Table.{Table, same_manager}
 use Rattle.ssa_model.specs.definitions.History.{Label, applied, updated, stripped, Step, Bench, is_manager_name}
 use Rattle.ssa_model.specs.definitions.Answers.{Fault, lone_bench, file_state, bench_of}
-use Rattle.ssa_model.specs.definitions.BenchText.{head_of, whole_object, first_json, step_json, bench_values, bench_text}
+use Rattle.ssa_model.specs.definitions.BenchText.{head_of, head_json, whole_object, first_json, step_json, bench_values, bench_text}
 use Rattle.ssa_model.specs.definitions.Valid.{AllEntries, IsValidState, shared_managers, KeepsOrder, KeepsOrders}
 use Rattle.ssa_model.specs.definitions.BenchFile.{IsReadBack, IsLabel, IsStep, IsSpelled, IsValidBench}
 use Rattle.ssa_model.specs.laws.BenchFiles.{text_lines, spelled_values, given_if, is_written_as, Head, head_in, schema_in, lone_in, said_label, is_label, label_in, keeps_order, step_with, step_in, steps_in, with_steps, values_bench, bench_in, BenchFilesAreTaken}
@@ -35,8 +35,13 @@ written-itself v = text-itself (compact v)
 
 -- ---- the head and the schema
 
-head-back : (place states : ℕ) → head_in (head_of place states) ≡ Some (record { place = place; states = states })
-head-back place states = ap (λ b. given_if {X = Head} b (record { place = place; states = states })) (written-itself (head_of place states))
+-- a head that is written is taken, where its place is that of a state, and there are no more states than a bench keeps
+pub head-back : (place states : ℕ) → nat_lt place states ≡ true → nat_le states (most_past + 1) ≡ true
+    → head_in (head_of place states) ≡ Some (record { place = place; states = states })
+head-back place states within few =
+    ap (λ b. given_if {X = Head} b (record { place = place; states = states }))
+    (and_from (is_written_as (head_of place states) (head_of place states)) (nat_lt place states && nat_le states (most_past + 1))
+    (written-itself (head_of place states)) (and_from (nat_lt place states) (nat_le states (most_past + 1)) within few))
 
 -- a schema that is read is taken from its value
 pub schema-back : (schema : Schema) → read_schema schema.source ≡ Ok schema.kind → schema_in schema.source ≡ Some schema
@@ -148,11 +153,16 @@ module _ (readings : Readings) (bench : Bench) (valid : IsValidBench readings be
 
   steps-are : with_steps written_head lone bench.timeline.later ≡ Some bench
   steps-are =
+      ap (λ b. given_if b bench) (nat-itself (length bench.timeline.later + 1))
+
+  -- the head of the bench's file is taken
+  pub own-head : head_in (head_json bench.timeline) ≡ Some written_head
+  own-head =
       let count = length bench.timeline.later in
-      ap (λ b. given_if b bench)
-      (and_from (count + 1 == count + 1) _ (nat-itself (count + 1))
-      (and_from (nat_le bench.timeline.place count) (nat_le count most_past)
-      (nat_le-of bench.timeline.place count valid.place) (nat_le-of count most_past valid.few)))
+      let place = valid.place in
+      let few = valid.few in
+      let within : nat_lt bench.timeline.place (count + 1) ≡ true = grind (arith, nat_tests, place) in
+      head-back bench.timeline.place (count + 1) within (nat_le-of (count + 1) (most_past + 1) (omega (arith, few)))
 
   abbrev of_lone : Bench → Option Bench
   of_lone l = option_and_then (with_steps written_head l) (steps_in readings l l.timeline.first (map (step_json bench) bench.timeline.later))
@@ -163,7 +173,7 @@ module _ (readings : Readings) (bench : Bench) (valid : IsValidBench readings be
   -- from the values that are written of the bench it is taken
   pub values-back : values_bench readings (bench_values bench) ≡ Some bench
   values-back =
-      ap (option_and_then of_head) (head-back bench.timeline.place (length bench.timeline.later + 1))
+      ap (option_and_then of_head) own-head
       ∙ ap (option_and_then of_schema) (schema-back bench.schema valid.read)
       ∙ ap (option_and_then of_lone) lone-back
       ∙ ap (option_and_then (with_steps written_head lone)) later-back
@@ -189,6 +199,4 @@ module _ (readings : Readings) (bench : Bench) (valid : IsValidBench readings be
 
 -- the law
 pub bench_file_is_taken : BenchFilesAreTaken
-bench_file_is_taken readings t bench file =
-    ap (bench_in readings) file.text
-    ∙ text-back readings bench file.valid (subst (λ x. length x ≤ most_bench_bytes) file.text file.fits) file.spelled
+bench_file_is_taken readings bench valid fits spelled = text-back readings bench valid fits spelled

@@ -1,8 +1,9 @@
 -- The values of a bench file are those written of the bench that is taken from them, and its text is the bench's.
-use Rattle.std.proofs.Common.{◌≡◌, ◌+◌, length, List, [], ◌∷◌, map, ◌&&◌, Option, Some, None, option_and_then, sym, ap, ◌∙◌, eqb-true}
+use Rattle.std.proofs.Common.{◌≡◌, ◌<◌, ◌+◌, length, List, [], ◌∷◌, map, ◌&&◌, Option, Some, None, option_and_then, sym, ap, subst, ◌∙◌, arith, eqb-true}
 use Rattle.std.proofs.lemmas.Bool.{and_parts}
+use Rattle.std.proofs.lemmas.Bool.Decides.{nat_tests}
 use Rattle.std.proofs.lemmas.Option.{same_Some, none-some}
-use Rattle.std.specs.Prelude.{◌==◌, codes, nat_le, Result, Ok, Err}
+use Rattle.std.specs.Prelude.{◌==◌, codes, nat_lt, nat_le, Result, Ok, Err}
 use Rattle.ssa_model.specs.definitions.Limits.{most_past, most_bench_bytes}
 use Rattle.ssa_model.specs.definitions.Json.{Json, member_at, compact}
 use Rattle.ssa_model.specs.definitions.Readings.{Readings}
@@ -22,12 +23,19 @@ use Rattle.ssa_model.proofs.Tables.{same_text-true}
 
 -- ---- the head and the schema
 
-head-from : (v : Json) (h : Head) → head_in v ≡ Some h → compact v ≡ compact (head_of h.place h.states)
+-- a head that is taken is written so, and its place is that of a state
+pub head-from : (v : Json) (h : Head) → head_in v ≡ Some h → (compact v ≡ compact (head_of h.place h.states)) × (h.place < h.states)
 head-from v h is =
     let place = and_then-back _ (number_in (member_at (codes "place") v)) h is in
     let states = and_then-back _ (number_in (member_at (codes "states") v)) h place.2 in
-    let got = given-back (is_written_as (head_of place.0 states.0) v) (record { place = place.0; states = states.0 }) h states.2 in
-    sym (same_text-true (compact (head_of place.0 states.0)) (compact v) got.0) ∙ ap (λ (x : Head). compact (head_of x.place x.states)) got.1
+    let written = is_written_as (head_of place.0 states.0) v in
+    let got = given-back (written && (nat_lt place.0 states.0 && nat_le states.0 (most_past + 1))) (record { place = place.0; states = states.0 }) h states.2 in
+    let tests = and_parts written _ got.0 in
+    let first = (and_parts (nat_lt place.0 states.0) (nat_le states.0 (most_past + 1)) tests.1).0 in
+    let within : place.0 < states.0 = grind (arith, nat_tests, first) in (
+      sym (same_text-true (compact (head_of place.0 states.0)) (compact v) tests.0) ∙ ap (λ (x : Head). compact (head_of x.place x.states)) got.1,
+      subst (λ (x : Head). x.place < x.states) got.1 within,
+    )
 
 -- the schema that is taken from a value has this value for its source
 pub schema-from : (v : Json) (r : Result Kind SchemaFault) (schema : Schema)
@@ -37,7 +45,8 @@ schema-from v (Err f) schema is = absurd (none-some schema is)
 
 -- ---- the first state
 
-lone-from : (v : Json) (r : Result Bench Fault) (lone : Bench)
+-- the bench that is taken of a first state's value is made from its object, and is written so
+pub lone-from : (v : Json) (r : Result Bench Fault) (lone : Bench)
     → elim r [ Ok bench ↦ given_if (is_written_as (first_json bench) v) bench | Err f ↦ None ] ≡ Some lone → (r ≡ Ok lone)
     × (compact v ≡ compact (first_json lone))
 lone-from v (Ok bench) lone is =
@@ -79,10 +88,10 @@ module _ (readings : Readings) (head source first : Json) (later : List Json) (b
   by-steps h schema lone steps headed schemed alone stepped is =
       let count = length steps in
       let made = with_timeline lone (record { first = lone.timeline.first; later = steps; place = h.place }) in
-      let got = given-back ((h.states == count + 1) && (nat_le h.place count && nat_le count most_past)) made bench is in
-      let counted = eqb-true h.states (count + 1) (and_parts (h.states == count + 1) _ got.0).0 in
+      let got = given-back (h.states == count + 1) made bench is in
+      let counted = eqb-true h.states (count + 1) got.0 in
       let lone_is = lone-from first (bench_of readings schema (object_in first)) lone alone in
-      let head_is = head-from head h headed ∙ ap (λ n. compact (head_of h.place n)) counted in
+      let head_is = (head-from head h headed).0 ∙ ap (λ n. compact (head_of h.place n)) counted in
       let schema_is = (lone-parts readings schema (object_in first) lone lone_is.0).schema_is in
       let source_is = schema-from source (read_schema source) schema schemed ∙ ap (λ (x : Schema). x.source) schema_is in
       let steps_are = steps-from readings lone lone.timeline.first later steps stepped in

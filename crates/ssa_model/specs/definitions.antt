@@ -56,13 +56,13 @@ pub mod Files
 pub mod Subcommands
 -- the lines of some bytes
 pub mod Lines
--- the text of a bench file
+-- the formats of bench files, and the text of a file of whole states
 pub mod BenchText
 -- a body of a kind, told place by place
 pub mod Fitting
 -- valid tables, states and histories
 pub mod Valid
--- valid benches, and which texts are bench files
+-- valid benches, and which values are read from their texts
 pub mod BenchFile
 -- the record of two states: what changes from the first to the second
 pub mod Record
@@ -80,3 +80,5 @@ pub mod RecordText
 pub mod RecordReading
 -- the text of a bench file of records
 pub mod RecordedBench
+-- bench files in each format
+pub mod Formats

@@ -10,7 +10,7 @@ pub mod MoreRows
 pub mod LineRows
 -- object files with managers' entries
 pub mod EntryRows
--- bench files
+-- bench files of whole states
 pub mod FileRows
 -- shown objects and states, taken again
 pub mod ShownRows
@@ -22,6 +22,8 @@ pub mod RecordRows
 pub mod RecordReadingRows
 -- bench files of records
 pub mod RecordedRows
+-- first lines, and files in each format
+pub mod FormatRows
 -- records that fit a state, and some that don't
 pub mod FittingRows
 pub mod PlaceRows

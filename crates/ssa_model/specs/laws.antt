@@ -16,7 +16,7 @@ pub mod ShownObjects
 pub mod ShownStates
 -- a set has one writing as FieldsV1
 pub mod OneWriting
--- how a bench file is taken, line by line
+-- how a bench file of whole states is taken, line by line
 pub mod BenchFiles
 -- what rising names are
 pub mod MemberNames
@@ -36,9 +36,11 @@ pub mod RecordWalks
 pub mod RecordReading
 -- how a bench file of records is taken, line by line
 pub mod RecordedBenches
--- a bench file of records read line by line
+-- how a bench file is taken, in the format that its first line tells
+pub mod Formats
+-- a bench file read line by line
 pub mod LineByLine
--- what is taken from one line of it, or its fault
+-- what is taken from one line of records, or its fault
 pub mod RecordedMoves
 -- which records fit a state
 pub mod FittingRecords

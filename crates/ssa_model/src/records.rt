@@ -8,10 +8,9 @@ ghost use Rattle.ssa_model.specs.laws.RecordWalks.{CutsAreFiltered, LeavesAreFil
 ghost use Rattle.ssa_model.specs.laws.FittingRecords.{FittingBodyLeads, TakenBodyFits, FittingTableLeads, TakenTableFits, FittingLeads, TakenFits};
 ghost use Rattle.ssa_model.specs.laws.RecordPlaces.{ReplacedAnswers, PartsFit, ReplacedFits, ReplacedIsRooted, ReplacedSize, ChangesThere, PlaceStays, KindsFit, PlaceIsValid, PlaceIsRead};
 ghost use Rattle.ssa_model.specs.laws.RecordReading.{RecordTextsHaveShape, RecordTextsAreRead};
-ghost use Rattle.ssa_model.specs.laws.LineByLine.{FilesAreRead};
 ghost use Rattle.ssa_model.specs.laws.RecordedBenches.{RecordedFilesAreTaken, TakenIsRecordedText, MisfitIsRefused, MovesHaveShape};
 ghost use Rattle.ssa_model.specs.laws.RecordedMoves.{LineIsMove, ShapelessIsNoMove, MisfitIsTold, LineOfParts};
-ghost use Rattle.ssa_model.specs.examples.RecordedRows.{RecordedFilesAreWritten, RecordedValuesAreTaken, RecordedFileIsMet, RecordedMovesAreMet, DamagedLinesAreTold, DamagedFilesAreTold, OtherFilesAreRefused};
+ghost use Rattle.ssa_model.specs.examples.RecordedRows.{RecordedFilesAreWritten, RecordedValuesAreTaken, RecordedMovesAreMet, DamagedLinesAreTold, DamagedFilesAreTold, OtherFilesAreRefused};
 ghost use Rattle.ssa_model.specs.examples.FittingRows.{RecordsFit, BodyRecordsFit, RepeatedLeafMisfits, WrongLeafMisfits, WrongPartMisfits, PutAgainMisfits, CutKeyFieldMisfits, CutNothingMisfits, GoneNobodyMisfits};
 ghost use Rattle.ssa_model.specs.examples.PlaceRows.{ItemReplaced, OtherPartKept, IsPlaceMet};
 ghost use Rattle.ssa_model.specs.examples.RecordReadingRows.{RecordsAreRead, ShapesAreTold, OtherShapesAreRefused, ReadStatesAreMet};
@@ -163,11 +162,10 @@ pub fn recorded_moves()
     ensures parts { LineOfParts }
 {}
 
-/// Bench files of records are written and taken again, worked by computation. There is such a file, and its line meets what the laws of one line ask.
+/// Bench files of records are written and taken again, worked by computation. The line of such a file meets what the laws of one line ask.
 pub fn recorded_files_are_worked()
     ensures written { RecordedFilesAreWritten }
     ensures taken { RecordedValuesAreTaken }
-    ensures met { RecordedFileIsMet }
     ensures moves { RecordedMovesAreMet }
 {}
 
@@ -219,11 +217,6 @@ pub fn damaged_records_do_not_fit()
     ensures key { CutKeyFieldMisfits }
     ensures nothing { CutNothingMisfits }
     ensures nobody { GoneNobodyMisfits }
-{}
-
-/// What is read of a bench file of records line by line is what is taken of its whole text, or the fault of its first faulty line.
-pub fn recorded_lines()
-    ensures { FilesAreRead }
 {}
 
 /// A body with a part in place of what it has at and below a path: what it answers, that it is a body of the kind again and rooted, and how large it is.

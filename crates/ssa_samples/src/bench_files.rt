@@ -25,6 +25,24 @@ pub fn bench_file(alloc: Global) -> Result<String, AllocError> {
     .concat(alloc)
 }
 
+/// The file of whole states of the same bench, with this place.
+pub fn states_file(alloc: Global, place: &str) -> Result<String, AllocError> {
+    let first = web(alloc, "", "")?;
+    let second = web(alloc, ENTRY, IMAGE)?;
+    [
+        "{\"format\":1,\"place\":",
+        place,
+        ",\"states\":2}\n",
+        SCHEMA,
+        "\n{\"command\":{},\"object\":",
+        first.as_str(),
+        "}\n{\"command\":{\"at\":\"2024-05-01T10:00:01Z\",\"do\":\"apply\",\"force\":false,\"manager\":\"kubectl\"},\"object\":",
+        second.as_str(),
+        "}\n",
+    ]
+    .concat(alloc)
+}
+
 /// The bench of a file.
 pub fn loaded(alloc: Global, file: &[u8]) -> Result<Bench, LoadFault> {
     let mut reader = OfReader::new(file);

@@ -20,3 +20,5 @@ mod over_steps_tests;
 mod record_size_tests;
 #[cfg(test)]
 mod saving_tests;
+#[cfg(test)]
+mod state_file_tests;

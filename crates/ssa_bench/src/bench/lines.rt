@@ -1,4 +1,4 @@
-//! The lines of a bench file, each taken on the bench that the lines before it made.
+//! The line of the state that a bench file shows first, and those of its records, each taken on the bench that the lines before it made.
 ghost use Rattle.std.specs.Prelude.{◌≡◌, ◌≤◌, ◌<◌, IfOk, length, true};
 ghost use Rattle.ssa_model.specs.definitions.Answers.{lone_state};
 ghost use Rattle.ssa_model.specs.definitions.BenchText.{whole_object};
@@ -6,15 +6,17 @@ ghost use Rattle.ssa_model.specs.definitions.History.{appended, past_len};
 ghost use Rattle.ssa_model.specs.definitions.Json.{compact, same_text};
 ghost use Rattle.ssa_model.specs.definitions.Limits.{most_past};
 ghost use Rattle.ssa_model.specs.definitions.MemberNames.{has_rising_names};
-ghost use Rattle.ssa_model.specs.laws.LineByLine.{at_place, preceded};
+ghost use Rattle.ssa_model.specs.laws.LineByLine.{at_place, preceded, shown_in};
 ghost use Rattle.ssa_model.specs.laws.RecordedBenches.{present_in};
 ghost use Rattle.ssa_json.specs.Readings.{readings};
 ghost use Rattle.ssa_json.specs.View.{view};
+ghost use Rattle.ssa_file.specs.Heads.{head_view};
 ghost use Rattle.ssa_bench.specs.Taking.{IsTaken, MovesBy, TellsMove};
 
 use super::Bench;
 use crate::record_reading::RecordReading;
 use crate::taking::{Step, answered_step, label_of, load_fault};
+use ssa_file::head::FileHead;
 use ssa_json::value::Json;
 use ssa_lines::loading::{FileLine, LoadFault};
 use ssa_lines::written::is_text_of;
@@ -24,6 +26,23 @@ use ssa_told::line_values::line_values;
 use std::alloc::{AllocError, Global};
 
 impl Bench {
+    // The bench of the state that a third line shows: of the first one or of the present one, by the format.
+    pub(crate) fn of_shown_line(
+        alloc: Global,
+        head: &FileHead,
+        schema: Schema,
+        line: FileLine,
+    ) -> Result<Bench, LoadFault>
+        requires { line.text.items ≡ compact (view line.value) }
+        ensures taken { IsTaken result (shown_in readings (head_view head.now) schema (view line.value)) }
+        ensures lone { IfOk result (λ b. b.timeline ≡ lone_state b.timeline.first) }
+    {
+        match head {
+            FileHead::States(_) => Bench::of_first_line(alloc, schema, line),
+            FileHead::Records(_) => Bench::of_present_line(alloc, schema, line),
+        }
+    }
+
     // Whether the text is that of the only state's object.
     fn is_present_line(&self, alloc: Global, text: &[u8]) -> Result<bool, AllocError>
         requires { self.now.timeline ≡ lone_state self.now.timeline.first }
@@ -33,12 +52,8 @@ impl Bench {
         is_text_of(alloc, &shown, text)
     }
 
-    // The bench of the state that a line shows.
-    pub(crate) fn of_present_line(
-        alloc: Global,
-        schema: Schema,
-        line: FileLine,
-    ) -> Result<Bench, LoadFault>
+    // The bench of the present state that a line shows.
+    fn of_present_line(alloc: Global, schema: Schema, line: FileLine) -> Result<Bench, LoadFault>
         requires { line.text.items ≡ compact (view line.value) }
         ensures taken { IsTaken result (present_in readings schema (view line.value)) }
         ensures lone { IfOk result (λ b. b.timeline ≡ lone_state b.timeline.first) }

@@ -1,6 +1,5 @@
 use Rattle.std.proofs.Common.{refl}
 use Rattle.ssa_model.specs.definitions.Lines.{split_lines}
-use Rattle.ssa_model.proofs.FiledBench.{bench_file_is_met}
 use Rattle.ssa_model.proofs.benches_are_taken.Goals as goal
 
 pub returns : goal.returns
@@ -8,6 +7,5 @@ unfolding split_lines
 returns c = record {
   taken = (refl, refl);
   refused = (refl, refl, refl, refl, refl, refl);
-  met = bench_file_is_met;
   other_texts = (refl, refl, refl, refl);
 }

@@ -1,8 +1,8 @@
--- Valid benches, and which texts are bench files.
+-- Valid benches, and which values are read from their texts.
 use Rattle.std.specs.Prelude.{◌≡◌, ◌≤◌, [], true, length, Ok}
 use Rattle.std.specs.List.{All}
-use Rattle.ssa_model.specs.definitions.Limits.{most_past, most_bench_bytes}
-use Rattle.ssa_model.specs.definitions.Json.{Text, Json, compact}
+use Rattle.ssa_model.specs.definitions.Limits.{most_past}
+use Rattle.ssa_model.specs.definitions.Json.{Json, compact}
 use Rattle.ssa_model.specs.definitions.Readings.{Readings}
 use Rattle.ssa_model.specs.definitions.FieldsV1.{fields_json, fields_faults, said_set}
 use Rattle.ssa_model.specs.definitions.Schema.{read_schema}
@@ -10,7 +10,6 @@ use Rattle.ssa_model.specs.definitions.Objects.{is_identity}
 use Rattle.ssa_model.specs.definitions.Lawful.{IsSchemaKind}
 use Rattle.ssa_model.specs.definitions.Table.{Entry}
 use Rattle.ssa_model.specs.definitions.History.{Label, applied, updated, stripped, Step, Bench, is_manager_name}
-use Rattle.ssa_model.specs.definitions.BenchText.{bench_values, bench_text}
 use Rattle.ssa_model.specs.definitions.Valid.{AllEntries, KeepsOrders, AllValid}
 
 -- the entry's set is read from its writing, and its moment is one
@@ -45,12 +44,3 @@ pub record IsValidBench (readings : Readings) (bench : Bench) : Type 0 where
   pub order : KeepsOrders bench.timeline.first bench.timeline.later
   pub place : bench.timeline.place ≤ length bench.timeline.later
   pub few : length bench.timeline.later ≤ most_past
-
--- ---- bench files
-
--- The text is that of the bench, which is valid, and each line's value is the one that is read from it.
-pub record IsBenchFile (readings : Readings) (contents : Text) (bench : Bench) : Type 0 where
-  pub valid : IsValidBench readings bench
-  pub text : contents ≡ bench_text bench
-  pub fits : length contents ≤ most_bench_bytes
-  pub spelled : All (IsSpelled readings) (bench_values bench)

@@ -1,4 +1,4 @@
--- The text of a bench file: one compact value a line, each line ended by a line feed.
+-- The formats of bench files, and the text of a file of whole states: one compact value a line, each line ended by a line feed.
 use Rattle.std.specs.Prelude.{ℕ, ◌+◌, List, [], ◌∷◌, ◌++◌, map, length, flat_map, true, codes}
 use Rattle.ssa_model.specs.definitions.Json.{Text, Json, object, no_members, member, compact}
 use Rattle.ssa_model.specs.definitions.Entries.{object_of_state}
@@ -6,13 +6,24 @@ use Rattle.ssa_model.specs.definitions.Operations.{State}
 use Rattle.ssa_model.specs.definitions.History.{Step, Timeline, Bench}
 use Rattle.ssa_model.specs.definitions.Replies.{number_json, label_json}
 
+pub data Format : Type 0 where
+  -- all states, each as its object
+  states : Format
+  -- the present object, and records that lead from it to the other states
+  records : Format
+
+-- the number that stands in a file's first line
+abbrev pub format_number : Format → ℕ
+format_number states = 1
+format_number records = 2
+
 abbrev pub line : Json → Text
 line v = compact v ++ 10 ∷ []
 
 -- the format, the place of the present state, and how many states there are
 abbrev pub head_of : ℕ → ℕ → Json
-head_of place states = object (member (codes "format") (number_json 1)
-    (member (codes "place") (number_json place) (member (codes "states") (number_json states) no_members)))
+head_of place count = object (member (codes "format") (number_json (format_number states))
+    (member (codes "place") (number_json place) (member (codes "states") (number_json count) no_members)))
 
 abbrev pub head_json : Timeline → Json
 head_json t = head_of t.place (length t.later + 1)

@@ -1,16 +1,14 @@
 -- The text of a bench file of records: the present object, and from it the records that lead back along the past and on along
--- the future. One compact value a line, each line ended by a line feed. And which texts are such files.
-use Rattle.std.specs.Prelude.{◌≡◌, ◌≤◌, ℕ, List, [], ◌∷◌, ◌++◌, take, drop, flat_map, length, codes}
+-- the future. One compact value a line, each line ended by a line feed.
+use Rattle.std.specs.Prelude.{ℕ, List, [], ◌∷◌, ◌++◌, take, drop, flat_map, codes}
 use Rattle.std.specs.List.{All}
-use Rattle.ssa_model.specs.definitions.Limits.{most_bench_bytes}
 use Rattle.ssa_model.specs.definitions.Json.{Text, Json, object, no_members, member}
 use Rattle.ssa_model.specs.definitions.Readings.{Readings}
 use Rattle.ssa_model.specs.definitions.Entries.{version_in}
 use Rattle.ssa_model.specs.definitions.Operations.{State}
 use Rattle.ssa_model.specs.definitions.History.{Label, Step, Timeline, Bench, present, past_len, future_len}
 use Rattle.ssa_model.specs.definitions.Replies.{number_json, label_json}
-use Rattle.ssa_model.specs.definitions.BenchText.{line, whole_object}
-use Rattle.ssa_model.specs.definitions.BenchFile.{IsSpelled, IsValidBench}
+use Rattle.ssa_model.specs.definitions.BenchText.{records, format_number, line, whole_object}
 use Rattle.ssa_model.specs.definitions.Record.{record_of}
 use Rattle.ssa_model.specs.definitions.RecordText.{record_json}
 use Rattle.ssa_model.specs.definitions.RecordReading.{HasReadPaths}
@@ -20,7 +18,8 @@ use Rattle.ssa_model.specs.definitions.RecordReading.{HasReadPaths}
 -- the format, and how many commands can be redone and undone
 abbrev pub record_head : ℕ → ℕ → Json
 record_head past future =
-    object (member (codes "format") (number_json 2) (member (codes "future") (number_json future) (member (codes "past") (number_json past) no_members)))
+    object (member (codes "format") (number_json (format_number records))
+    (member (codes "future") (number_json future) (member (codes "past") (number_json past) no_members)))
 
 -- a command, and the record of the move from one state to another across it
 abbrev pub record_line : Bench → Label → State → State → Json
@@ -54,7 +53,7 @@ recorded_values bench =
 abbrev pub recorded_text : Bench → Text
 recorded_text bench = flat_map line (recorded_values bench)
 
--- ---- files
+-- ---- paths that are read
 
 abbrev pub HasReadStep : Readings → Step → Type 0
 HasReadStep readings s = HasReadPaths readings s.state.body
@@ -63,11 +62,3 @@ HasReadStep readings s = HasReadPaths readings s.state.body
 pub record HasReadHistory (readings : Readings) (t : Timeline) : Type 0 where
   pub first : HasReadPaths readings t.first.body
   pub later : All (HasReadStep readings) t.later
-
--- The text is that of the bench, which is valid, and each line's value is the one that is read from it.
-pub record IsRecordedFile (readings : Readings) (contents : Text) (bench : Bench) : Type 0 where
-  pub valid : IsValidBench readings bench
-  pub paths : HasReadHistory readings bench.timeline
-  pub text : contents ≡ recorded_text bench
-  pub fits : length contents ≤ most_bench_bytes
-  pub spelled : All (IsSpelled readings) (recorded_values bench)

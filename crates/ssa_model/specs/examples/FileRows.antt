@@ -10,7 +10,6 @@ use Rattle.ssa_model.specs.definitions.Operations.{apply_target}
 use Rattle.ssa_model.specs.definitions.History.{Label, applied, updated, stripped, Step, Bench, present, with_timeline}
 use Rattle.ssa_model.specs.definitions.Answers.{Command, apply, undo, run}
 use Rattle.ssa_model.specs.definitions.BenchText.{line, head_of, head_json, state_json, first_json, step_json, bench_values, bench_text}
-use Rattle.ssa_model.specs.definitions.BenchFile.{IsBenchFile}
 use Rattle.ssa_model.specs.laws.BenchFiles.{values_bench, bench_in}
 use Rattle.ssa_model.specs.examples.Sample.{sample_kind, sample_schema}
 use Rattle.ssa_model.specs.examples.Rows.{new_bench, with_replicas, m1, m2}
@@ -114,10 +113,6 @@ applied_step =
 -- the step is undone
 abbrev pub filed : Bench
 filed = with_timeline new_bench (record { first = new_bench.timeline.first; later = applied_step ∷ []; place = 0 })
-
--- what is asked of a bench file is met
-abbrev pub BenchFileIsMet : Type 0
-BenchFileIsMet = IsBenchFile (readings_of (bench_values filed)) (bench_text filed) filed
 
 -- a head with a blank in it
 abbrev pub spaced_head : Text

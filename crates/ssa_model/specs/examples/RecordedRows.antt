@@ -12,7 +12,7 @@ use Rattle.ssa_model.specs.definitions.MemberNames.{has_distinct_names, has_risi
 use Rattle.ssa_model.specs.definitions.Operations.{State}
 use Rattle.ssa_model.specs.definitions.RecordReading.{IsReadState}
 use Rattle.ssa_model.specs.definitions.Valid.{IsValidState, KeepsOrder}
-use Rattle.ssa_model.specs.definitions.RecordedBench.{record_head, record_line, recorded_values, recorded_text, IsRecordedFile}
+use Rattle.ssa_model.specs.definitions.RecordedBench.{record_head, record_line, recorded_values, recorded_text}
 use Rattle.ssa_model.specs.laws.RecordedBenches.{is_move_shape, recorded_bench, recorded_bench_in, move_fault_number, line_fault, recorded_fault}
 use Rattle.ssa_model.specs.laws.RecordedMoves.{IsReadBackState, TellsLines, IsRecordLineOf}
 use Rattle.ssa_model.specs.examples.Sample.{sample_kind, sample_schema, string_json, number_json}
@@ -77,10 +77,6 @@ is_taken_again bench =
 
 abbrev pub RecordedValuesAreTaken : Type 0
 RecordedValuesAreTaken = (is_taken_again applied_bench ≡ true) × (is_taken_again (after (one_apply ∷ undo ∷ [])) ≡ true)
-
--- what is asked of a bench file of records is met
-abbrev pub RecordedFileIsMet : Type 0
-RecordedFileIsMet = IsRecordedFile (readings_of (recorded_values filed)) (recorded_text filed) filed
 
 -- what is asked of a bench so that the values of its file of records are shallow is met
 abbrev pub ShallowFileIsMet : Type 0

@@ -1,7 +1,8 @@
--- How a bench file is taken, line by line: each line is the compact text of a value, and so is what is written of what is
--- taken from it. What is taken is the bench of which the text is the file, where there is one.
-use Rattle.std.specs.Prelude.{◌≡◌, ℕ, pos, ◌+◌, List, [], ◌∷◌, Bool, true, ◌&&◌, ◌==◌, Option, Some, None, option_map, option_and_then, Ok, Err, if◌then◌else◌, length, nat_le, codes}
+-- How a bench file of whole states is taken, line by line: each line is the compact text of a value, and so is what is written
+-- of what is taken from it. What is taken is the bench of which the text is the file, where there is one.
+use Rattle.std.specs.Prelude.{◌≡◌, ◌≤◌, ℕ, pos, ◌+◌, List, [], ◌∷◌, Bool, true, ◌&&◌, ◌==◌, Option, Some, None, option_map, option_and_then, Ok, Err, if◌then◌else◌, length, nat_lt, nat_le, codes}
 use Rattle.std.specs.Cmp.Lexicographic.{pointwise}
+use Rattle.std.specs.List.{All}
 use Rattle.ssa_model.specs.definitions.Limits.{most_past, most_bench_bytes}
 use Rattle.ssa_model.specs.definitions.Json.{Text, Json, scalar, whole, compact, same_text, member_at}
 use Rattle.ssa_model.specs.definitions.Readings.{Readings}
@@ -12,9 +13,9 @@ use Rattle.ssa_model.specs.definitions.Operations.{State}
 use Rattle.ssa_model.specs.definitions.History.{Label, applied, updated, stripped, Step, Bench, is_manager_name, with_timeline}
 use Rattle.ssa_model.specs.definitions.Answers.{bench_of, file_state}
 use Rattle.ssa_model.specs.definitions.Lines.{split_lines}
-use Rattle.ssa_model.specs.definitions.BenchText.{head_of, first_json, step_json, bench_text}
+use Rattle.ssa_model.specs.definitions.BenchText.{head_of, first_json, step_json, bench_values, bench_text}
 use Rattle.ssa_model.specs.definitions.Valid.{shared_managers}
-use Rattle.ssa_model.specs.definitions.BenchFile.{IsBenchFile}
+use Rattle.ssa_model.specs.definitions.BenchFile.{IsSpelled, IsValidBench}
 
 -- ---- the values of the lines
 
@@ -47,14 +48,17 @@ abbrev pub number_in : Option Json → Option ℕ
 number_in (Some (scalar (whole (pos n)))) = Some n
 number_in _ = None
 
--- the place, and how many states there are
+-- the place, which is that of one of the states, and how many states there are, no more than a bench keeps
 pub record Head : Type 0 where
   pub place : ℕ
   pub states : ℕ
 
 abbrev pub head_in : Json → Option Head
 head_in v =
-    option_and_then (λ place. option_and_then (λ states. given_if (is_written_as (head_of place states) v) (record { place = place; states = states }))
+    option_and_then
+    (λ place. option_and_then
+    (λ states. given_if (is_written_as (head_of place states) v && (nat_lt place states && nat_le states (most_past + 1)))
+    (record { place = place; states = states }))
     (number_in (member_at (codes "states") v)))
     (number_in (member_at (codes "place") v))
 
@@ -104,11 +108,10 @@ steps_in readings bench before [] = Some []
 steps_in readings bench before (v ∷ vs) = option_and_then (λ s. option_map (λ ss. s ∷ ss) (steps_in readings bench s.state vs))
     (step_in readings bench before v)
 
--- the bench with these steps, where the head counts them and its place is among them
+-- the bench with these steps, where the head counts the states
 abbrev pub with_steps : Head → Bench → List Step → Option Bench
 with_steps head lone steps =
-    given_if ((head.states == length steps + 1) && (nat_le head.place (length steps) && nat_le (length steps) most_past))
-    (with_timeline lone (record { first = lone.timeline.first; later = steps; place = head.place }))
+    given_if (head.states == length steps + 1) (with_timeline lone (record { first = lone.timeline.first; later = steps; place = head.place }))
 
 -- ---- the bench of a text
 
@@ -128,9 +131,12 @@ bench_in readings t = if nat_le (length t) most_bench_bytes then option_and_then
 
 -- ---- the laws
 
--- the file of a bench is taken as that bench
+-- the text of a valid bench, each line of which is read, is taken as that bench
 abbrev pub BenchFilesAreTaken : Type 0
-BenchFilesAreTaken = (readings : Readings) (t : Text) (bench : Bench) → IsBenchFile readings t bench → bench_in readings t ≡ Some bench
+BenchFilesAreTaken =
+    (readings : Readings) (bench : Bench)
+    → IsValidBench readings bench → length (bench_text bench) ≤ most_bench_bytes → All (IsSpelled readings) (bench_values bench)
+    → bench_in readings (bench_text bench) ≡ Some bench
 
 -- a text that is taken is the text of what it is taken as
 abbrev pub TakenIsItsText : Type 0

@@ -1,14 +1,16 @@
--- A bench file of records read line by line: what stands next, what is taken of it, and the first fault. What is read so is what is
--- taken of the whole text, and its fault where nothing is.
+-- A bench file read line by line: what stands next, what is taken of it, and the first fault. What is read so is what is taken of the
+-- whole text, and its fault where nothing is.
 use Rattle.std.specs.Prelude.{◌≡◌, ℕ, zero, suc, ◌+◌, ◌-◌, List, [], ◌∷◌, length, drop, Option, Some, None, Result, Ok, Err}
 use Rattle.ssa_model.specs.definitions.Limits.{most_bench_bytes}
 use Rattle.ssa_model.specs.definitions.Json.{Text, Json}
 use Rattle.ssa_model.specs.definitions.Lines.{whole_lines}
 use Rattle.ssa_model.specs.definitions.Operations.{State}
 use Rattle.ssa_model.specs.definitions.Readings.{Readings}
-use Rattle.ssa_model.specs.definitions.History.{Label, Timeline, Bench, appended, moved_to, present, with_timeline}
-use Rattle.ssa_model.specs.laws.BenchFiles.{spelled_value, schema_in}
-use Rattle.ssa_model.specs.laws.RecordedBenches.{counts_in, present_in, lines_within, MoveFault, no_move_text, value_move, recorded_bench_in, recorded_fault}
+use Rattle.ssa_model.specs.definitions.Schema.{Schema}
+use Rattle.ssa_model.specs.definitions.History.{Label, Step, Timeline, Bench, appended, moved_to, present, with_timeline}
+use Rattle.ssa_model.specs.laws.BenchFiles.{Head, spelled_value, schema_in, lone_in, step_in}
+use Rattle.ssa_model.specs.laws.RecordedBenches.{present_in, lines_within, MoveFault, no_move_text, value_move}
+use Rattle.ssa_model.specs.laws.Formats.{FileHead, of_states, of_records, file_head, file_bench_in, file_fault}
 
 -- ---- what stands next
 
@@ -30,6 +32,10 @@ preceded t label s = record { first = s; later = record { label = label; state =
 
 abbrev pub moved_by : Move → Bench → Label × State → Bench
 moved_by move b m = with_timeline b (move b.timeline m.0 m.1)
+
+-- the bench with a later state, which is the present one
+abbrev pub gone_on : Bench → Step → Bench
+gone_on b s = with_timeline b (appended b.timeline s.label s.state)
 
 abbrev pub at_place : ℕ → Bench → Bench
 at_place n b = with_timeline b (moved_to b.timeline n)
@@ -91,9 +97,27 @@ module _ (readings : Readings) where
   abbrev pub moves_from : ℕ → ℕ → Bench → Reader
   moves_from past future b = along preceded (on_from past future) past b
 
+  -- so many lines, each a state behind the present one
+  abbrev pub steps_from : (Bench → Reader) → ℕ → Bench → Reader
+  steps_from go zero b = go b
+  steps_from go (suc n) b = with_part (step_in readings b (present b.timeline)) (λ s. steps_from go n (gone_on b s))
+
+  -- all later states behind the first one, and the end
+  abbrev pub later_from : Head → Bench → Reader
+  later_from head b = steps_from (λ last. ended_with (at_place head.place last)) (head.states - 1) b
+
+  -- the bench of the state that stands behind the schema: of the first one, or of the present one
+  abbrev pub shown_in : FileHead → Schema → Json → Option Bench
+  shown_in (of_states head) = lone_in readings
+  shown_in (of_records counts) = present_in readings
+
+  -- what stands behind that state: all later ones, or the records
+  abbrev pub rest_from : FileHead → Bench → Reader
+  rest_from (of_states head) = later_from head
+  rest_from (of_records counts) = moves_from counts.past counts.future
+
   abbrev pub file_from : Reader
-  file_from =
-      with_part counts_in (λ counts. with_part schema_in (λ schema. with_part (present_in readings schema) (moves_from counts.past counts.future)))
+  file_from = with_part file_head (λ head. with_part schema_in (λ schema. with_part (shown_in head schema) (rest_from head)))
 
 -- ---- the law
 
@@ -101,4 +125,4 @@ module _ (readings : Readings) where
 abbrev pub FilesAreRead : Type 0
 FilesAreRead =
     (readings : Readings) (t : Text)
-    → file_from readings t most_bench_bytes ≡ elim (recorded_bench_in readings t) [ Some bench ↦ Ok bench | None ↦ Err (recorded_fault readings t) ]
+    → file_from readings t most_bench_bytes ≡ elim (file_bench_in readings t) [ Some bench ↦ Ok bench | None ↦ Err (file_fault readings t) ]

@@ -10,14 +10,15 @@ use Rattle.ssa_model.specs.definitions.Operations.{State}
 use Rattle.ssa_model.specs.definitions.Replies.{label_json}
 use Rattle.ssa_model.specs.definitions.History.{Label, Step, Bench, with_timeline}
 use Rattle.ssa_model.specs.definitions.Answers.{bench_of, file_state}
-use Rattle.ssa_model.specs.definitions.BenchText.{whole_object}
+use Rattle.ssa_model.specs.definitions.BenchText.{records, whole_object}
+use Rattle.ssa_model.specs.definitions.Formats.{IsFile}
 use Rattle.ssa_model.specs.definitions.Objects.{is_identity}
 use Rattle.ssa_model.specs.definitions.Lines.{whole_lines}
 use Rattle.ssa_model.specs.definitions.Valid.{IsValidState}
 use Rattle.ssa_model.specs.definitions.BenchFile.{IsLabel}
 use Rattle.ssa_model.specs.definitions.Carry.{carry}
 use Rattle.ssa_model.specs.definitions.RecordReading.{Test, must_have, has_members, is_record_shape, record_in, has_read_paths, IsReadState}
-use Rattle.ssa_model.specs.definitions.RecordedBench.{record_head, record_line, recorded_text, IsRecordedFile}
+use Rattle.ssa_model.specs.definitions.RecordedBench.{record_head, record_line, recorded_text}
 use Rattle.ssa_model.specs.laws.BenchFiles.{spelled_value, values_of, given_if, is_written_as, number_in, schema_in, said_label, is_label, label_in, keeps_order}
 
 -- ---- the head and the present object
@@ -172,7 +173,7 @@ recorded_fault readings t = texts_fault readings (lines_within most_bench_bytes 
 
 -- the file of a bench is taken as that bench
 abbrev pub RecordedFilesAreTaken : Type 0
-RecordedFilesAreTaken = (readings : Readings) (t : Text) (bench : Bench) → IsRecordedFile readings t bench → recorded_bench_in readings t ≡ Some bench
+RecordedFilesAreTaken = (readings : Readings) (t : Text) (bench : Bench) → IsFile readings records t bench → recorded_bench_in readings t ≡ Some bench
 
 -- a text that is taken is the text of what it is taken as
 abbrev pub TakenIsRecordedText : Type 0

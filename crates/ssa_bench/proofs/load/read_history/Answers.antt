@@ -1,6 +1,8 @@
 use Rattle.std.proofs.Common.{ap, arith}
 use Rattle.ssa_model.specs.definitions.History.{Bench}
-use Rattle.ssa_bench.specs.Loading.{ReadsHistory}
+use Rattle.ssa_model.specs.laws.LineByLine.{moves_from}
+use Rattle.ssa_json.specs.Readings.{readings}
+use Rattle.ssa_bench.specs.Loading.{ReadsOn}
 use Rattle.ssa_bench.proofs.LoadedParts.{fault-handed}
 use Rattle.ssa_bench.proofs.LoadedBench.{end-refused, future-refused, history-read, past-refused}
 use Rattle.ssa_bench.proofs.load.read_history.Goals as goal
@@ -14,7 +16,7 @@ returns-in_err-read_past-clause-read g c =
     let back = c.read_past.new.bench in
     let a = g.R.Source.remaining c.args.reader.now in
     let b = g.R.Source.remaining c.read_past.new.reader in
-    fault-handed c.from_residual.result fault (ReadsHistory past future a b c.args.room.now first back) c.from_residual.ensures.1
+    fault-handed c.from_residual.result fault (ReadsOn (moves_from readings past future first) a b c.args.room.now back) c.from_residual.ensures.1
     (past-refused past future first back back a b b b c.args.room.now c.read_past.new.room c.read_past.new.room fault c.in_err-read_past.ensures.read)
 
 pub returns-in_err-read_future-clause-read : goal.returns-in_err-read_future-clause-read
@@ -26,7 +28,7 @@ returns-in_err-read_future-clause-read g c =
     let last = c.read_future.new.bench in
     let a = g.R.Source.remaining c.args.reader.now in
     let d = g.R.Source.remaining c.read_future.new.reader in
-    fault-handed c.from_residual-in_err-read_future.result fault (ReadsHistory past future a d c.args.room.now first last)
+    fault-handed c.from_residual-in_err-read_future.result fault (ReadsOn (moves_from readings past future first) a d c.args.room.now last)
     c.from_residual-in_err-read_future.ensures.1
     (future-refused past future first c.read_past.new.bench last a _ d d c.args.room.now c.read_past.new.room c.read_future.new.room fault
     c.go_to.new.self c.go_to.ensures c.in_ok-read_past.ensures.read c.in_err-read_future.ensures.read)
@@ -40,7 +42,7 @@ returns-in_err-read_end-clause-read g c =
     let last = c.read_future.new.bench in
     let a = g.R.Source.remaining c.args.reader.now in
     let d = g.R.Source.remaining c.read_end.new.reader in
-    fault-handed c.from_residual-in_err-read_end.result fault (ReadsHistory past future a d c.args.room.now first last)
+    fault-handed c.from_residual-in_err-read_end.result fault (ReadsOn (moves_from readings past future first) a d c.args.room.now last)
     c.from_residual-in_err-read_end.ensures.1
     (end-refused past future first c.read_past.new.bench last a _ _ d c.args.room.now c.read_past.new.room c.read_future.new.room fault
     c.go_to.new.self c.go_to.ensures c.in_ok-read_past.ensures.read c.in_ok-read_future.ensures.read c.in_err-read_end.ensures.read)

@@ -1,5 +1,5 @@
 use Rattle.ssa_model.proofs.LineByLine.{files_are_read}
-use Rattle.ssa_model.proofs.records.recorded_lines.Goals as goal
+use Rattle.ssa_model.proofs.files.files_are_read.Goals as goal
 
 pub returns : goal.returns
 returns c = files_are_read

@@ -1,0 +1,69 @@
+-- Laws of taking the states of a bench file of whole states from its lines.
+use Rattle.std.proofs.Common.{◌≡◌, ◌&&◌, true, Option, Some, None, option_map, refl, sym, ap, subst, ◌∙◌}
+use Rattle.std.proofs.lemmas.Bool.{and_parts}
+use Rattle.std.proofs.lemmas.Option.{none-some}
+use Rattle.std.specs.Prelude.{codes, Result, Ok, Err}
+use Rattle.ssa_model.specs.definitions.Answers as model
+use Rattle.ssa_model.specs.definitions.Answers.{file_state}
+use Rattle.ssa_model.specs.definitions.BenchText.{step_json}
+use Rattle.ssa_model.specs.definitions.Commands.{value_in}
+use Rattle.ssa_model.specs.definitions.History.{Bench, Label, applied, updated, stripped, Step, is_manager_name}
+use Rattle.ssa_model.specs.definitions.Json.{Json, member_at}
+use Rattle.ssa_model.specs.definitions.Operations.{State}
+use Rattle.ssa_model.specs.definitions.Valid.{KeepsOrder, is_named}
+use Rattle.ssa_model.specs.laws.BenchFiles.{given_if, is_label, is_written_as, keeps_order, label_in, object_in, said_label, step_in, step_with}
+use Rattle.ssa_model.specs.laws.Formats as formats
+use Rattle.ssa_model.specs.laws.Formats.{file_head}
+use Rattle.ssa_model.proofs.Given.{given-back, and_then-back}
+use Rattle.ssa_model.proofs.TakenOfWritten.{keeps_order-by}
+use Rattle.ssa_json.specs.Readings.{readings}
+use Rattle.ssa_file.specs.Heads.{head_view}
+use Rattle.ssa_file.specs.declared.head.FileHead.{FileHead}
+use Rattle.ssa_file.specs.declared.head.FileHead.TheVariants.{States, Records}
+use Rattle.ssa_bench.specs.Taking.{held, held_head}
+
+-- ---- the head
+
+held-back : (found : Option FileHead) → option_map held (option_map head_view found) ≡ found
+held-back None = refl
+held-back (Some (States p)) = refl
+held-back (Some (Records c)) = refl
+
+-- the head that was found in a value is the one that the program holds of it
+pub head-held : (found : Option FileHead) (v : Json) → option_map head_view found ≡ file_head v → held_head v ≡ found
+head-held found v e = ap (option_map held) (sym e) ∙ held-back found
+
+-- ---- the label
+
+label-named : (l : Label) → is_label readings l ≡ true → is_named l ≡ true
+label-named (applied who force at) h = (and_parts (is_manager_name who) (readings.moment at) h).0
+label-named (updated who at) h = (and_parts (is_manager_name who) (readings.moment at) h).0
+label-named stripped h = refl
+
+said-named : (v : Json) (l : Label) → label_in readings v ≡ Some l → is_named l ≡ true
+said-named v l h =
+    let got = given-back (is_label readings (said_label v)) (said_label v) l h in
+    subst (λ k. is_named k ≡ true) got.1 (label-named (said_label v) got.0)
+
+-- ---- a step that is taken
+
+-- the step may follow the state
+pub record MayFollow (before : State) (s : Step) : Type 0 where
+  pub order : KeepsOrder before.table s.state.table
+  pub named : is_named s.label ≡ true
+
+module _ (bench : Bench) (before : State) (v : Json) where
+  by-state : (l : Label) (r : Result State model.Fault) (s : Step) → is_named l ≡ true
+      → elim r [ Ok state ↦ step_with bench before v l state | Err f ↦ None ] ≡ Some s → MayFollow before s
+  by-state l (Ok state) s named h =
+      let made : Step = record { label = l; state = state } in
+      let got = given-back (is_written_as (step_json bench made) v && keeps_order before.table state.table) made s h in
+      let both = and_parts (is_written_as (step_json bench made) v) (keeps_order before.table state.table) got.0 in
+      subst (MayFollow before) got.1 (record { order = keeps_order-by before.table state.table both.1; named = named })
+  by-state l (Err f) s named h = absurd (none-some s h)
+
+  -- a step that is taken of a line behind a state may follow it
+  pub taken-follows : (s : Step) → step_in readings bench before v ≡ Some s → MayFollow before s
+  taken-follows s h =
+      let said = and_then-back _ (label_in readings (value_in (member_at (codes "command") v))) s h in
+      by-state said.0 (file_state readings bench.schema.kind (object_in v)) s (said-named (value_in (member_at (codes "command") v)) said.0 said.1) said.2

@@ -1,0 +1,23 @@
+use Rattle.ssa_json.specs.View.{view}
+use Rattle.ssa_model.specs.laws.LineByLine.{shown_in}
+use Rattle.ssa_json.specs.Readings.{readings}
+use Rattle.ssa_file.specs.Heads.{head_view}
+use Rattle.ssa_bench.specs.Loading.{ReadsPart}
+use Rattle.ssa_bench.proofs.LoadedParts.{part-read, part-unread, fault-handed, taken-no-io}
+use Rattle.ssa_bench.proofs.load.read_shown.Goals as goal
+
+pub returns-in_err-line-clause-read : goal.returns-in_err-line-clause-read
+returns-in_err-line-clause-read g c =
+    let fault = c.in_err-line.field-0.0 in
+    let told = ReadsPart (shown_in readings (head_view c.args.head.now) c.args.schema) (g.R.Source.remaining c.args.reader.now) (g.R.Source.remaining c.next_line.new.reader)
+    c.args.room.now c.next_line.new.room in
+    fault-handed c.from_residual.result fault told c.from_residual.ensures.1
+    (part-unread (shown_in readings (head_view c.args.head.now) c.args.schema) _ _ _ _ fault c.in_err-line.ensures.read)
+
+pub returns-clause-read : goal.returns-clause-read
+returns-clause-read g c = part-read (shown_in readings (head_view c.args.head.now) c.args.schema) _ _ _ _ c.in_ok-line.line c.of_shown_line.result c.in_ok-line.ensures.read
+    c.of_shown_line.ensures.taken
+
+pub returns-clause-failed : goal.returns-clause-failed
+returns-clause-failed g c = λ e. absurd (taken-no-io c.of_shown_line.result ((shown_in readings (head_view c.args.head.now) c.args.schema) (view c.in_ok-line.line.value))
+    c.of_shown_line.ensures.taken e)

@@ -1,0 +1,25 @@
+-- What the first line of a bench file says.
+use Rattle.std.specs.Prelude.{◌<◌, ◌≤◌, ◌+◌}
+use Rattle.ssa_model.specs.definitions.Limits.{most_past}
+use Rattle.ssa_model.specs.laws.BenchFiles as states
+use Rattle.ssa_model.specs.laws.RecordedBenches as records
+use Rattle.ssa_model.specs.laws.Formats as formats
+use Rattle.ssa_file.specs.declared.head.StatePlace.{StatePlace}
+use Rattle.ssa_file.specs.declared.head.RecordCounts.{RecordCounts}
+use Rattle.ssa_file.specs.declared.head.FileHead.{FileHead}
+use Rattle.ssa_file.specs.declared.head.FileHead.TheVariants.{States, Records}
+
+abbrev pub place_view : StatePlace → states.Head
+place_view p = record { place = p.place; states = p.states }
+
+abbrev pub counts_view : RecordCounts → records.Counts
+counts_view c = record { past = c.past; future = c.future }
+
+abbrev pub head_view : FileHead → formats.FileHead
+head_view (States p) = formats.of_states (place_view p)
+head_view (Records c) = formats.of_records (counts_view c)
+
+-- the numbers tell of no more commands than can be undone, and the place is that of a state
+abbrev pub IsFew : FileHead → Type 0
+IsFew (States p) = (p.place < p.states) × (p.states ≤ most_past + 1)
+IsFew (Records c) = c.past + c.future ≤ most_past
