@@ -4,7 +4,7 @@ from typing import NamedTuple
 from .bodies import compare, flat, is_too_large, listed, value_at
 from .operations import Act, State, apply, strip, update
 from .schemas import fit
-from .tables import Key, entries, named, read_entries
+from .tables import Key, entries, named, part_members, read_entries
 from .values import Fault
 
 # The depth of the history: how many commands can be undone. Beside `is_full` and what a bench file may hold, nothing speaks of it.
@@ -97,9 +97,9 @@ class Bench:
         if word == 'strip':
             after, label = strip(before), {'do': 'strip'}
         else:
-            act = Act(Key(named(command['manager']), word.capitalize()), command['at'])
+            act = self.act(command)
             body = read_object(self.kind, command['object'], self.identity).body
-            label = {'at': command['at'], 'do': word, 'manager': command['manager']}
+            label = {'at': command['at'], 'do': word, 'manager': act.key.name, **part_members(act.key.part)}
             if word == 'apply':
                 label['force'] = command.get('force', False)
                 after = apply(before, act, body, label['force'])
@@ -108,6 +108,13 @@ class Bench:
         self.keep(after, label)
         added, modified, removed = map(listed, compare(before.body, after.body))
         return {'added': added, 'done': word, 'managers': len(after.table), 'modified': modified, 'removed': removed}
+
+    def act(self, command):
+        """Who acts, when, and through which part, where the name and the part are ones."""
+        key = Key(named(command['manager']), command['do'].capitalize(), command.get('subresource', ''))
+        if key.part and key.part not in self.kind.fields:
+            raise Fault(67)
+        return Act(key, command['at'])
 
     def keep(self, state, label):
         """Cuts what could be redone, and goes on to the new state."""

@@ -5,6 +5,7 @@ from .bodies import METADATA, is_ownable, restrict, value_at
 from .drawn_values import led, permuted, some_value, spelled, spoiled, spoiled_bytes, varied
 from .paths import beginnings, fields_v1
 from .schemas import Record
+from .tables import Key, part_members
 from .values import text
 
 NAMES, RARE_NAMES = ('a', 'm2', 'kubectl', 'n' * 128), ('', 'é', 'x' * 129, 'a\x7f', '"\\', ' ', '~')
@@ -53,10 +54,15 @@ def some_object(dice, bench, name):
 def some_deed(dice, bench, word, force, step):
     name = some_name(dice)
     at = moment(step - dice.below(3)) if dice.one_in(10) else moment(step)
-    command = {'at': at, 'do': word, 'manager': name, 'object': some_object(dice, bench, name)}
+    command = {'at': at, 'do': word, 'manager': name, 'object': some_object(dice, bench, name), **part_members(some_part(dice))}
     if word == 'apply' and (force or dice.one_in(4)):
         command['force'] = force
     return command
+
+
+def some_part(dice):
+    """The subresource in one command of four."""
+    return 'status' if dice.one_in(4) else ''
 
 
 def some_change(dice, bench, step):
@@ -104,6 +110,9 @@ def bad_line(dice, bench, step):
         given = command['object']
         metadata = {**given['metadata'], 'managedFields': dice.pick(([], 1, {}, ''))}
         return text({**command, 'object': {**given, 'metadata': metadata}}).encode()
+    if how == 3 and 'object' in command:
+        named = {'manager': dice.pick(RARE_NAMES), 'subresource': dice.pick(('status', 'status', 'scale', '', 1))}
+        return text({**command, **named}).encode()
     if how < 6 and 'object' in command:
         return text({**command, 'object': spoiled(dice, command['object'])}).encode()
     return spelled(dice, spoiled(dice, command))
@@ -118,16 +127,17 @@ def some_rows(dice, body, number):
         owned = set(dice.some(ownable, 1 + dice.below(4)) or [dice.pick(ownable)])
         above = {path for it in owned for path in beginnings(it)} - {(), METADATA}
         owned |= {path for path in sorted(above) if dice.one_in(8)}
-        rows.append((name, dice.pick(('Apply', 'Apply', 'Update')), owned & body.keys(), moment(place)))
+        key = Key(name, dice.pick(('Apply', 'Apply', 'Update')), some_part(dice))
+        rows.append((key, owned & body.keys(), moment(place)))
     return rows
 
 
 def with_entries(dice, given, body, number):
     """An object with managedFields."""
     entries, seen = [], set()
-    for name, operation, owned, at in some_rows(dice, body, number):
-        if (name, operation) not in seen or dice.one_in(20):
-            seen.add((name, operation))
-            entries.append({'apiVersion': given['apiVersion'], 'fieldsType': 'FieldsV1', 'fieldsV1': fields_v1(owned), 'manager': name,
-                            'operation': operation, 'time': at})
+    for key, owned, at in some_rows(dice, body, number):
+        if key not in seen or dice.one_in(20):
+            seen.add(key)
+            entries.append({'apiVersion': given['apiVersion'], 'fieldsType': 'FieldsV1', 'fieldsV1': fields_v1(owned), 'time': at,
+                            **key.members()})
     return {**given, 'metadata': {**given['metadata'], 'managedFields': entries}}

@@ -29,9 +29,10 @@ GROUPS = map_list(['name'], name=WORD, hosts=set_of(WORD), numbers=set_of(WHOLE)
                   rows=map_list(['id'], id=WHOLE, on=TRUTH, marks=set_of(WHOLE)))
 EVERY_KIND = fields(args=items(WORD), limits={**entries(WHOLE), MAP_TYPE: 'atomic'}, env=entries(WORD), hosts=set_of(WORD),
                     numbers=set_of(WHOLE), parts=entries(fields(n=WHOLE, on=TRUTH)), ports=PORTS, groups=GROUPS,
-                    spec=fields(image=WORD, on=TRUTH, size=WHOLE))
+                    spec=fields(image=WORD, on=TRUTH, size=WHOLE),
+                    status=fields(phase=WORD, ready=WHOLE, seen=set_of(WORD), conditions=map_list(['type'], type=WORD, on=TRUTH)))
 SCALARS = (WORD, WHOLE, TRUTH)
-NAMES = ('a', 'b', 'c', 'd"', 'e\\', 'é', '', 'kind', 'f\n', 'z')
+NAMES = ('a', 'b', 'c', 'd"', 'e\\', 'é', '', 'kind', 'f\n', 'z', 'status')
 
 
 def some_fields(dice, level, inside):

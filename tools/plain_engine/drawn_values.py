@@ -129,7 +129,7 @@ def changed(value, at, make):
 
 
 STRANGE = (None, 1.5, True, False, 7, -1, 'x', '', [], {}, ['x'], {'x': 1}, {'.': {}}, 'a', 10 ** 19, -0.0, 'set', 'map', 'atomic', 'granular',
-           'string', 'integer', 'object', 'array', ['name'], ['port', 'port'], {'type': 'string'}, 'Apply', 'Patch', '2024-05-01T10:00:60Z')
+           'string', 'integer', 'object', 'array', 'status', ['name'], ['port', 'port'], {'type': 'string'}, 'Apply', 'Patch', '2024-05-01T10:00:60Z')
 NAMES = ('x', 'zzz', 'uid', 'name', 'namespace', 'managedFields', 'force', 'managed', 'description', 'items', 'properties', 'default',
          'additionalProperties', 'x-kubernetes-list-type', 'x-kubernetes-list-map-keys', 'x-kubernetes-map-type', '.', 'i:0', 'v: 1',
          'v:1.5', 'f:spec', 'f:metadata', 'q', 'k:{}', 'k:{"a": 1}', 'k:{"a":[]}', 'v:', 'subresource', 'apiVersion', 'metadata')

@@ -13,26 +13,31 @@ class State(NamedTuple):
 
 
 class Act(NamedTuple):
-    """Who acts, when, and on which part of the object: the one place where parts of an object would be told apart."""
+    """Who acts, when, and on which part of the object: the one place where parts of an object are told apart."""
     key: object
     at: str
 
     def has(self, path):
-        """Whether the path is one of the part through which the manager acts: there is one part, the whole object."""
-        return True
+        """Whether the path is one of the part through which the manager acts."""
+        return (path[:1] == ('f:status',)) == (self.key.part == 'status')
 
     def of_part(self, body):
         """What of a configuration is in the part."""
-        return body
+        return {path: there for path, there in body.items() if path == () or self.has(path)}
 
     def joined(self, body, live):
         """The body in the part, the live one outside."""
-        return body
+        return {**self.of_part(body), **{path: there for path, there in live.items() if path != () and not self.has(path)}}
 
 
 def owned_by(table, key):
     row = row_of(table, key)
     return row.owned if row else frozenset()
+
+
+def owned_outside(table, act):
+    """What the manager owns outside the part through which it acts."""
+    return {path for path in owned_by(table, act.key) if not act.has(path)}
 
 
 def dropped(table, act, config):
@@ -70,12 +75,14 @@ def apply(state, act, config, force):
         raise Fault(50, conflicts=[{'fields': listed(paths), **key.members()} for key, paths in found])
     if is_too_large(body):
         raise Fault(24)
-    owned = points(config) | {path for path in owned_by(state.table, act.key) if not act.has(path)}
+    owned = points(config) | owned_outside(state.table, act)
     return with_table(body, seat(state.table, act.key, owned, modified, modified, act.at))
 
 
 def update(state, act, given):
     body = act.joined(given, state.body)
+    if is_too_large(body):
+        raise Fault(24)
     added, modified, removed = compare(state.body, body)
     owned = (owned_by(state.table, act.key) - removed) | modified | added
     return with_table(body, seat(state.table, act.key, owned, modified | removed, modified, act.at))

@@ -21,7 +21,8 @@ def words_of(word, given):
     words = [word, 'bench']
     if word in ('apply', 'update'):
         words += ['given', '--at=' + given[1]] + (['--field-manager=' + given[2]] if given[2] != 'kubectl' else [])
-    if word == 'apply' and given[3]:
+        words += ['--subresource=' + given[3]] if given[3] else []
+    if word == 'apply' and given[4]:
         words.append('--force-conflicts')
     if word == 'show' and given[0]:
         words.append('--show-managed-fields')

@@ -5,8 +5,8 @@ from .bodies import children, flat, is_leaf, is_ownable, is_too_large, kind_at, 
 from .operations import State
 from .paths import fields_v1, is_under, read_fields_v1, read_path
 from .schemas import fit
-from .tables import (KEY_MEMBERS, MOST_MANAGERS, OPERATIONS, Row, entry, has_entry_shape, key_listed, key_of, is_key_list, named,
-                     row_of)
+from .tables import (KEY_MEMBERS, MOST_MANAGERS, OPERATIONS, Row, entry, has_entry_shape, is_key_list, is_part_told, key_listed, key_of,
+                     named, row_of)
 from .values import Fault, is_whole, moment, text
 
 MEMBERS = {'changed', 'cut', 'gone', 'here', 'leaves', 'order', 'put'}
@@ -79,8 +79,8 @@ def is_pair(told):
 
 def is_change(told):
     members = {'gain', 'lose'} | KEY_MEMBERS
-    return (isinstance(told, dict) and told.keys() in (members, members | {'time'}) and told['operation'] in OPERATIONS
-            and isinstance(told['manager'], str) and ('time' not in told or moment(told['time']) is not None)
+    return (isinstance(told, dict) and told.keys() - {'subresource', 'time'} == members and told['operation'] in OPERATIONS
+            and is_part_told(told) and isinstance(told['manager'], str) and ('time' not in told or moment(told['time']) is not None)
             and read_fields_v1(told['gain']) is not None and read_fields_v1(told['lose']) is not None)
 
 
@@ -88,6 +88,12 @@ def is_arrival(told):
     it = told['entry']
     return (told.keys() == {'entry', 'place'} and is_whole(told['place']) and has_entry_shape({**it, 'fieldsType': 'FieldsV1'})
             and isinstance(it['fieldsType'], str) and moment(it['time']) is not None and read_fields_v1(it['fieldsV1']) is not None)
+
+
+def tells_part(told):
+    """Whether a manager that a record tells of acts through a subresource."""
+    return (any('subresource' in it for it in told['changed'] + [it['entry'] for it in told['here']])
+            or any(len(it) > 2 for it in told['gone']))
 
 
 def carried(told, before, kind, version):

@@ -5,12 +5,13 @@ from .benches import Bench, read_state
 from .files import file_text, read_file
 from .paths import read_path
 from .schemas import read_schema
+from .tables import is_part_told, part_members
 from .values import Fault, moment, read, text
 
 TEXTS = {'at', 'manager'}
 # The members of each command: those that it has to have, and those that it may have.
-COMMANDS = {'apply': ({'at', 'manager', 'object'}, {'force'}), 'update': ({'at', 'manager', 'object'}, set()), 'strip': (set(), set()),
-            'undo': (set(), set()), 'redo': (set(), set()), 'show': (set(), {'managed'}), 'owners': ({'path'}, set()), 'log': (set(), set())}
+COMMANDS = {'apply': ({'at', 'manager', 'object'}, {'force', 'subresource'}), 'update': ({'at', 'manager', 'object'}, {'subresource'}),
+            'strip': (set(), set()), 'undo': (set(), set()), 'redo': (set(), set()), 'show': (set(), {'managed'}), 'owners': ({'path'}, set()), 'log': (set(), set())}
 FILE_FAULTS = (70, 71, 72, 73)
 
 
@@ -27,7 +28,7 @@ def command_of(value):
     names = value.keys() - {'do'}
     is_well = (needed <= names <= needed | others and all(isinstance(value[it], str) for it in names & TEXTS)
                and all(isinstance(value[it], bool) for it in names & {'force', 'managed'})
-               and ('path' not in names or is_texts(value['path'])))
+               and is_part_told(value) and ('path' not in names or is_texts(value['path'])))
     if not is_well:
         raise Fault(66)
     if 'at' in value:
@@ -116,9 +117,9 @@ class Desk:
         """A subcommand that is one command of a session."""
         command = {'do': word}
         if word in ('apply', 'update'):
-            command |= {'object': read(given[0]), 'at': moment(given[1]), 'manager': given[2]}
+            command |= {'object': read(given[0]), 'at': moment(given[1]), 'manager': given[2], **part_members(given[3])}
         if word == 'apply':
-            command['force'] = given[3]
+            command['force'] = given[4]
         if word == 'show':
             command['managed'] = given[0]
         if word == 'owners':

@@ -13,18 +13,29 @@ class Key(NamedTuple):
     """What a manager is known by. Each of its spellings is one function here."""
     name: str
     operation: str
+    # The subresource through which it acts, '' where it acts on all but these.
+    part: str = ''
 
     def members(self):
         """In entries, conflicts, owners and changes."""
-        return {'manager': self.name, 'operation': self.operation}
+        return {'manager': self.name, 'operation': self.operation, **part_members(self.part)}
 
     def listed(self):
         """Among the managers that a record tells as gone."""
-        return [self.name, self.operation]
+        return [self.name, self.operation, *part_members(self.part).values()]
+
+
+def part_members(part):
+    return {'subresource': part} if part else {}
+
+
+def is_part_told(members):
+    """Whether members tell no subresource, or one that is one."""
+    return members.get('subresource', 'status') == 'status'
 
 
 def key_of(members):
-    return Key(members['manager'], members['operation'])
+    return Key(members['manager'], members['operation'], members.get('subresource', ''))
 
 
 def key_listed(said):
@@ -32,7 +43,8 @@ def key_listed(said):
 
 
 def is_key_list(said):
-    return isinstance(said, list) and len(said) == 2 and isinstance(said[0], str) and said[1] in OPERATIONS
+    return (isinstance(said, list) and len(said) in (2, 3) and isinstance(said[0], str) and said[1] in OPERATIONS
+            and said[2:] in ([], ['status']))
 
 
 KEY_MEMBERS = {'manager', 'operation'}
@@ -87,8 +99,8 @@ def entries(table, version):
 
 def has_entry_shape(given):
     texts = {'apiVersion', 'fieldsType', 'time'} | KEY_MEMBERS
-    return (isinstance(given, dict) and given.keys() == texts | {'fieldsV1'} and all(isinstance(given[name], str) for name in texts)
-            and given['operation'] in OPERATIONS and given['fieldsType'] == 'FieldsV1')
+    return (isinstance(given, dict) and given.keys() - {'subresource'} == texts | {'fieldsV1'} and is_part_told(given)
+            and all(isinstance(given[name], str) for name in texts) and given['operation'] in OPERATIONS and given['fieldsType'] == 'FieldsV1')
 
 
 def read_entries(given, body, version):

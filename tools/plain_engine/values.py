@@ -9,7 +9,7 @@ NAMES = {1: 'NotJson', 2: 'NullValue', 3: 'NumberOutside', 4: 'TooLong', 6: 'Bad
          24: 'TooManyPaths', 30: 'BadElement', 31: 'IndexElement', 32: 'NotCanonical', 40: 'AbsentPath', 41: 'DuplicateManager',
          42: 'EmptyEntry', 43: 'TooManyManagers', 44: 'OtherVersion', 45: 'BadEntry', 50: 'Conflict', 60: 'Identity',
          61: 'ManagedFieldsGiven', 62: 'ManagerName', 63: 'HistoryFull', 64: 'NothingToUndo', 65: 'NothingToRedo',
-         66: 'CommandShape', 70: 'BenchText', 71: 'RecordDoesNotFit'}
+         66: 'CommandShape', 67: 'NoSubresource', 70: 'BenchText', 71: 'RecordDoesNotFit'}
 
 
 class Fault(Exception):

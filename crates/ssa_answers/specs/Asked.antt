@@ -14,6 +14,8 @@ use Rattle.ssa_json.specs.Moment.{is_moment}
 use Rattle.ssa_json.specs.Readings.{readings}
 use Rattle.ssa_json.specs.View.{view}
 use Rattle.ssa_json.specs.declared.value.Json.{Json}
+use Rattle.ssa_path.specs.Subresources.{part_view}
+use Rattle.ssa_merge.specs.States.{actor}
 use Rattle.ssa_answers.specs.Commands.{command_view}
 use Rattle.ssa_answers.specs.Replies.{line_code}
 use Rattle.ssa_answers.specs.declared.command.Command.{Command}
@@ -24,8 +26,8 @@ use Rattle.ssa_answers.specs.declared.asked.AskedFault.{AskedFault}
 use Rattle.ssa_answers.specs.declared.asked.AskedFault.TheVariants.{TooLong, Line}
 
 abbrev pub asked_view : Asked → subcommands.Asked
-asked_view (Apply manager force at object) = subcommands.apply manager.now force at.now object.now
-asked_view (Update manager at object) = subcommands.update manager.now at.now object.now
+asked_view (Apply manager part force at object) = subcommands.apply (actor manager.now (part_view part)) force at.now object.now
+asked_view (Update manager part at object) = subcommands.update (actor manager.now (part_view part)) at.now object.now
 asked_view Strip = subcommands.strip
 asked_view Undo = subcommands.undo
 asked_view Redo = subcommands.redo

@@ -3,13 +3,14 @@ use Rattle.std.specs.Prelude.{◌≡◌, List, [], ◌∷◌, false, true, Optio
 use Rattle.ssa_members.specs.Texts.{text_bytes}
 use Rattle.ssa_model.specs.definitions.Json.{Text, Members, member_of, as_text}
 use Rattle.ssa_model.specs.definitions.Readings.{not_json, null_value, number_outside}
-use Rattle.ssa_model.specs.definitions.Commands.{MemberRule, text_member, truth_member, texts_member, any_member, needs, may_have, CommandRule, text_in, value_in}
+use Rattle.ssa_model.specs.definitions.Commands.{MemberRule, text_member, truth_member, texts_member, part_member, any_member, needs, may_have, CommandRule, text_in, value_in, subresource_in}
 use Rattle.ssa_model.specs.definitions.Answers as answers
 use Rattle.ssa_model.specs.definitions.Session as session
 use Rattle.ssa_model.specs.definitions.Session.{unread, bad_moment, command_shape, of_element}
 use Rattle.ssa_model.specs.definitions.ElementTexts.{bad_element, index_element, not_canonical}
 use Rattle.ssa_json.specs.Moment.{is_moment}
 use Rattle.ssa_json.specs.View.{view}
+use Rattle.ssa_path.specs.Subresources.{part_view}
 use Rattle.ssa_answers.specs.Changes as changes
 use Rattle.ssa_answers.specs.declared.command.Command.{Command}
 use Rattle.ssa_answers.specs.declared.command.Command.TheVariants as command
@@ -40,8 +41,9 @@ word_text Log = codes "log"
 -- the members beside `do`
 abbrev pub member_rules : Word → List MemberRule
 member_rules Apply = needs (codes "at") text_member ∷ needs (codes "manager") text_member ∷ needs (codes "object") any_member
-    ∷ may_have (codes "force") truth_member ∷ []
-member_rules Update = needs (codes "at") text_member ∷ needs (codes "manager") text_member ∷ needs (codes "object") any_member ∷ []
+    ∷ may_have (codes "force") truth_member ∷ may_have (codes "subresource") part_member ∷ []
+member_rules Update = needs (codes "at") text_member ∷ needs (codes "manager") text_member ∷ needs (codes "object") any_member
+    ∷ may_have (codes "subresource") part_member ∷ []
 member_rules Strip = []
 member_rules Undo = []
 member_rules Redo = []
@@ -81,6 +83,7 @@ given_moment ms = text_in (member_of (codes "at") ms)
 -- the request is what the members give
 pub record IsRequest (ms : Members) (r : Request) : Type 0 where
   pub manager_is : text_in (member_of (codes "manager") ms) ≡ text_bytes r.who
+  pub part_is : subresource_in (member_of (codes "subresource") ms) ≡ part_view r.part
   pub at_is : given_moment ms ≡ r.at
   pub moment : is_moment (given_moment ms) ≡ true
   pub object_is : value_in (member_of (codes "object") ms) ≡ view r.object

@@ -5,6 +5,8 @@ ghost use Rattle.ssa_model.specs.definitions.Subcommands.{asked_command, asked_v
 ghost use Rattle.ssa_json.specs.FaultCodes.{code_view};
 ghost use Rattle.ssa_json.specs.Readings.{readings};
 ghost use Rattle.ssa_json.specs.View.{items_view};
+ghost use Rattle.ssa_path.specs.Subresources.{part_view};
+ghost use Rattle.ssa_merge.specs.States.{actor};
 ghost use Rattle.ssa_answers.specs.Asked.{IsAskedCommand, IsMoment, IsValueOf, asked_code, asked_view, owners_of_items};
 ghost use Rattle.ssa_answers.specs.declared.read_command.LineFault.TheVariants.{OutOfMemory};
 ghost use Rattle.ssa_answers.specs.declared.asked.AskedFault.TheVariants.{Line};
@@ -17,6 +19,7 @@ use ssa_json::fault_code::FaultCode;
 use ssa_json::moment::Moment;
 use ssa_json::value::Json;
 use ssa_path::element_fault::ElemFault;
+use ssa_path::part::Part;
 use ssa_told::path_texts::path_of_texts;
 use ssa_told::value_shape::are_texts;
 use std::alloc::{AllocError, Global};
@@ -31,6 +34,7 @@ pub enum Asked<'a> {
     /// A manager applies the object of a file.
     Apply {
         manager: &'a str,
+        part: Part,
         force: bool,
         at: &'a str,
         object: &'a [u8],
@@ -38,6 +42,7 @@ pub enum Asked<'a> {
     /// A manager replaces the object by that of a file.
     Update {
         manager: &'a str,
+        part: Part,
         at: &'a str,
         object: &'a [u8],
     },
@@ -94,15 +99,17 @@ pub fn command_of(alloc: Global, asked: Asked<'_>) -> Result<Command, AskedFault
     match asked {
         Asked::Apply {
             manager,
+            part,
             force,
             at,
             object,
-        } => apply_command(alloc, manager, force, at, object),
+        } => apply_command(alloc, manager, part, force, at, object),
         Asked::Update {
             manager,
+            part,
             at,
             object,
-        } => update_command(alloc, manager, at, object),
+        } => update_command(alloc, manager, part, at, object),
         Asked::Strip => Ok(Command::Change(change::Command::Strip)),
         Asked::Undo => Ok(Command::Undo),
         Asked::Redo => Ok(Command::Redo),
@@ -139,17 +146,19 @@ fn moment_of(at: &str) -> Result<Moment, AskedFault>
 fn apply_command(
     alloc: Global,
     manager: &str,
+    part: Part,
     force: bool,
     at: &str,
     object: &[u8],
 ) -> Result<Command, AskedFault>
-    ensures { IsAskedCommand result (asked_command readings (model.apply manager.now force at.now object.now)) }
+    ensures { IsAskedCommand result (asked_command readings (model.apply (actor manager.now (part_view part)) force at.now object.now)) }
 {
     let object = value_of(alloc, object)?;
     let at = moment_of(at)?;
     let who = String::from_str(alloc, manager)?;
     Ok(Command::Change(change::Command::Apply {
         who,
+        part,
         force,
         at,
         object,
@@ -159,15 +168,21 @@ fn apply_command(
 fn update_command(
     alloc: Global,
     manager: &str,
+    part: Part,
     at: &str,
     object: &[u8],
 ) -> Result<Command, AskedFault>
-    ensures { IsAskedCommand result (asked_command readings (model.update manager.now at.now object.now)) }
+    ensures { IsAskedCommand result (asked_command readings (model.update (actor manager.now (part_view part)) at.now object.now)) }
 {
     let object = value_of(alloc, object)?;
     let at = moment_of(at)?;
     let who = String::from_str(alloc, manager)?;
-    Ok(Command::Change(change::Command::Update { who, at, object }))
+    Ok(Command::Change(change::Command::Update {
+        who,
+        part,
+        at,
+        object,
+    }))
 }
 
 fn owners_command(alloc: Global, path: &str) -> Result<Command, AskedFault>

@@ -2,6 +2,7 @@
 
 use ssa_json::moment::Moment;
 use ssa_json::value::Json;
+use ssa_path::part::Part;
 
 /// A command that makes a new state of an object.
 #[derive(Drop)]
@@ -9,6 +10,8 @@ pub enum Command {
     /// A manager applies a configuration.
     Apply {
         who: String,
+        /// The part of the object that is applied.
+        part: Part,
         /// Whether fields of other managers are taken from them where they are in conflict.
         force: bool,
         at: Moment,
@@ -17,6 +20,8 @@ pub enum Command {
     /// A manager replaces the object.
     Update {
         who: String,
+        /// The part of the object that is replaced.
+        part: Part,
         at: Moment,
         object: Json,
     },

@@ -11,6 +11,7 @@ use ssa_json::members::has_member;
 use ssa_json::text::is_same_text;
 use ssa_json::value::{Json, Scalar};
 use ssa_members::Members;
+use ssa_path::part_members::part_of_name;
 use ssa_told::value_shape::{are_texts, is_text, text_of};
 
 /// What a command does, as its member `do` says.
@@ -83,6 +84,7 @@ fn is_update_member(name: &str, value: &Json) -> bool
         || (is_same_text(name, "at") && is_text(value))
         || (is_same_text(name, "manager") && is_text(value))
         || is_same_text(name, "object")
+        || (is_same_text(name, "subresource") && part_of_name(value).is_some())
 }
 
 // Whether an apply command may have the member.

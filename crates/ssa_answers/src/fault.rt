@@ -35,6 +35,9 @@ pub enum Fault {
     /// A manager's name is not of 1 to 128 printable ASCII characters.
     #[error("no name of a manager")]
     ManagerName,
+    /// The schema has no such subresource.
+    #[error("no such subresource")]
+    NoSubresource,
     /// The history has 1,000 commands before the present state.
     #[error("1,000 commands before the present state")]
     HistoryFull,
@@ -65,6 +68,7 @@ impl Fault {
             Fault::ManagedFieldsGiven => FaultCode::ManagedFieldsGiven,
             Fault::Entry(fault) => fault.code(),
             Fault::ManagerName => FaultCode::ManagerName,
+            Fault::NoSubresource => FaultCode::NoSubresource,
             Fault::HistoryFull => FaultCode::HistoryFull,
             Fault::NothingToUndo => FaultCode::NothingToUndo,
             Fault::NothingToRedo => FaultCode::NothingToRedo,

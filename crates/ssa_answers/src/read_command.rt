@@ -22,6 +22,8 @@ use ssa_json::reading_room::ReadingRoom;
 use ssa_json::value::{Json, Scalar, objects_are_members};
 use ssa_members::{Members, SmallText};
 use ssa_path::element_fault::ElemFault;
+use ssa_path::part::Part;
+use ssa_path::part_members::part_of_members;
 use ssa_told::path_texts::path_of_texts;
 use ssa_told::value_shape::{list_of, text_of};
 use std::alloc::{AllocError, AllocFailed, Global};
@@ -143,6 +145,7 @@ fn command_of(alloc: Global, value: Json) -> Result<Command, LineFault>
 #[derive(Drop)]
 struct Request {
     who: SmallText,
+    part: Part,
     at: Moment,
     object: Json,
 }
@@ -158,13 +161,21 @@ fn take_request(members: &mut Members<Json>) -> Option<Request>
     let Ok(at) = Moment::read(text) else {
         return None;
     };
+    let Some(part) = part_of_members(members) else {
+        unreachable!("the shape has the name of a subresource");
+    };
     let Some(object) = members.remove("object") else {
         unreachable!("the shape has the member");
     };
     let Some(who) = take_text(members, "manager") else {
         unreachable!("the shape has a text");
     };
-    Some(Request { who, at, object })
+    Some(Request {
+        who,
+        part,
+        at,
+        object,
+    })
 }
 
 // The apply command of members that follow its rule.
@@ -174,12 +185,19 @@ fn apply_command(alloc: Global, mut members: Members<Json>) -> Result<Command, L
     ensures { ReadsCommand result (read_command readings (object (members_view members.entries))) }
 {
     let force = truth_of(&members, "force");
-    let Some(Request { who, at, object }) = take_request(&mut members) else {
+    let Some(Request {
+        who,
+        part,
+        at,
+        object,
+    }) = take_request(&mut members)
+    else {
         return Err(LineFault::BadMoment);
     };
     let who = String::from_str(alloc, who.as_str())?;
     Ok(Command::Change(change::Command::Apply {
         who,
+        part,
         force,
         at,
         object,
@@ -192,11 +210,22 @@ fn update_command(alloc: Global, mut members: Members<Json>) -> Result<Command, 
     requires shape { IsTrue (follows_rule (members_view members.entries) (rule_at Word.Update)) }
     ensures { ReadsCommand result (read_command readings (object (members_view members.entries))) }
 {
-    let Some(Request { who, at, object }) = take_request(&mut members) else {
+    let Some(Request {
+        who,
+        part,
+        at,
+        object,
+    }) = take_request(&mut members)
+    else {
         return Err(LineFault::BadMoment);
     };
     let who = String::from_str(alloc, who.as_str())?;
-    Ok(Command::Change(change::Command::Update { who, at, object }))
+    Ok(Command::Change(change::Command::Update {
+        who,
+        part,
+        at,
+        object,
+    }))
 }
 
 // The owners command of members that follow its rule.

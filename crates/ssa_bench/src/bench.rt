@@ -46,6 +46,7 @@ use ssa_model::{recorded_values_are_shallow, rising_names_are_distinct};
 use ssa_object::body_value::{body_value, file_parts};
 use ssa_object::identity::{Identity, gives_managed_fields};
 use ssa_object::object::object_of_state;
+use ssa_path::part::Part;
 use ssa_path::path::Path;
 use ssa_schema::body_fault::BodyFault;
 use ssa_schema::schema::Schema;
@@ -203,8 +204,14 @@ impl Bench {
     }
 
     // The body of an Apply's or an Update's object, or the first fault of the command.
-    fn tested_body(&self, alloc: Global, who: &str, object: Json) -> Result<Body, Fault>
-        ensures given { IsGiven result (tested_body self.now who.now (view object)) }
+    fn tested_body(
+        &self,
+        alloc: Global,
+        who: &str,
+        part: Part,
+        object: Json,
+    ) -> Result<Body, Fault>
+        ensures given { IsGiven result (tested_body self.now (actor who.now (part_view part)) (view object)) }
         ensures valid { IfOk result (λ b. IsValidBody self.now.schema.kind b) }
         ensures named { IfOk result (λ b. is_manager_name who.now ≡ true) }
     {
@@ -214,6 +221,9 @@ impl Bench {
         if !is_manager_name(who) {
             return Err(Fault::ManagerName);
         }
+        if !self.schema.has_part(part) {
+            return Err(Fault::NoSubresource);
+        }
         self.command_body(alloc, object)
     }
 
@@ -222,21 +232,28 @@ impl Bench {
         &self,
         alloc: Global,
         who: String,
+        part: Part,
         force: bool,
         at: Moment,
         config: Body,
     ) -> Result<Prepared, Fault>
         requires valid { IsValidBody self.now.schema.kind config }
         requires named { is_manager_name (string_bytes who) ≡ true }
-        ensures { IsPrepared self.now result (apply_answer self.now (string_bytes who) force at config) (codes "apply") }
+        ensures { IsPrepared self.now result (apply_answer self.now (actor (string_bytes who) (part_view part)) force at config) (codes "apply") }
     {
         let now = self.timeline.present();
         self.timeline.own_entries_are_read();
         self.timeline.own_paths_are_read();
         bodies_are_alike();
-        match change_apply(alloc, now, config, who.as_str(), force, at) {
+        match change_apply(alloc, now, config, who.as_str(), part, force, at) {
             Ok(change) => {
-                let prepared = accepted(alloc, now, Label::Apply { at, force, who }, change)?;
+                let label = Label::Apply {
+                    at,
+                    force,
+                    who,
+                    part,
+                };
+                let prepared = accepted(alloc, now, label, change)?;
                 Ok(prepared)
             }
             Err(refusal) => Err(Fault::from(refusal)),
@@ -248,14 +265,15 @@ impl Bench {
         &self,
         alloc: Global,
         who: String,
+        part: Part,
         force: bool,
         at: Moment,
         object: Json,
     ) -> Result<Prepared, Fault>
-        ensures { IsPrepared self.now result (answer self.now (apply (string_bytes who) force at (view object))) (codes "apply") }
+        ensures { IsPrepared self.now result (answer self.now (apply (actor (string_bytes who) (part_view part)) force at (view object))) (codes "apply") }
     {
-        match self.tested_body(alloc, who.as_str(), object) {
-            Ok(config) => self.prepare_configuration(alloc, who, force, at, config),
+        match self.tested_body(alloc, who.as_str(), part, object) {
+            Ok(config) => self.prepare_configuration(alloc, who, part, force, at, config),
             Err(fault) => Err(fault),
         }
     }
@@ -265,19 +283,20 @@ impl Bench {
         &self,
         alloc: Global,
         who: String,
+        part: Part,
         at: Moment,
         body: Body,
     ) -> Result<Prepared, Fault>
         requires valid { IsValidBody self.now.schema.kind body }
         requires named { is_manager_name (string_bytes who) ≡ true }
-        ensures { IsPrepared self.now result (update_answer self.now (string_bytes who) at body) (codes "update") }
+        ensures { IsPrepared self.now result (update_answer self.now (actor (string_bytes who) (part_view part)) at body) (codes "update") }
     {
         let now = self.timeline.present();
         self.timeline.own_entries_are_read();
         self.timeline.own_paths_are_read();
-        match change_update(alloc, now, body, who.as_str(), at) {
+        match change_update(alloc, now, body, who.as_str(), part, at) {
             Ok(change) => {
-                let prepared = accepted(alloc, now, Label::Update { at, who }, change)?;
+                let prepared = accepted(alloc, now, Label::Update { at, who, part }, change)?;
                 Ok(prepared)
             }
             Err(refusal) => Err(Fault::from(refusal)),
@@ -289,13 +308,14 @@ impl Bench {
         &self,
         alloc: Global,
         who: String,
+        part: Part,
         at: Moment,
         object: Json,
     ) -> Result<Prepared, Fault>
-        ensures { IsPrepared self.now result (answer self.now (update (string_bytes who) at (view object))) (codes "update") }
+        ensures { IsPrepared self.now result (answer self.now (update (actor (string_bytes who) (part_view part)) at (view object))) (codes "update") }
     {
-        match self.tested_body(alloc, who.as_str(), object) {
-            Ok(body) => self.prepare_replacement(alloc, who, at, body),
+        match self.tested_body(alloc, who.as_str(), part, object) {
+            Ok(body) => self.prepare_replacement(alloc, who, part, at, body),
             Err(fault) => Err(fault),
         }
     }
@@ -317,7 +337,7 @@ impl Bench {
 
     /// What a command leads to, or why it is refused. The bench is as before.
     ///
-    /// Of several faults the first is told: `HistoryFull`, `ManagerName`, then of the object: no
+    /// Of several faults the first is told: `HistoryFull`, `ManagerName`, `NoSubresource`, then of the object: no
     /// object, `Identity`, `ManagedFieldsGiven`, the fault of the schema, `TooManyPaths`; and then
     /// `Conflict`, `TooManyPaths`, `TooManyManagers`. A command that changes nothing is a step of the
     /// history like any other.
@@ -327,11 +347,17 @@ impl Bench {
         match command {
             Command::Apply {
                 who,
+                part,
                 force,
                 at,
                 object,
-            } => self.prepare_apply(alloc, who, force, at, object),
-            Command::Update { who, at, object } => self.prepare_update(alloc, who, at, object),
+            } => self.prepare_apply(alloc, who, part, force, at, object),
+            Command::Update {
+                who,
+                part,
+                at,
+                object,
+            } => self.prepare_update(alloc, who, part, at, object),
             Command::Strip => self.prepare_strip(alloc),
         }
     }

@@ -11,6 +11,7 @@
 //! let mut bench = Bench::new(rt.alloc(), schema(rt.alloc())?, object)?;
 //! let command = Command::Apply {
 //!     who,
+//!     part: Part::Main,
 //!     force: false,
 //!     at,
 //!     object: with_image,

@@ -11,6 +11,8 @@ use ssa_file::head::{FileHead, file_head};
 use ssa_json::value::Json;
 use ssa_lines::loading::{FileLine, LoadFault};
 use ssa_lines::written::is_text_of;
+use ssa_merge::managers::Managers;
+use ssa_path::part::Part;
 use ssa_record::read_record::RecordAnswer;
 use ssa_schema::fault::SchemaFault;
 use ssa_schema::schema::Schema;
@@ -91,6 +93,19 @@ pub(crate) fn label_of(alloc: Global, value: &Json) -> Result<Option<Label>, All
     } else {
         Ok(None)
     }
+}
+
+// Whether a label tells no subresource.
+pub(crate) fn is_main_label(label: &Label) -> bool {
+    match label {
+        Label::Apply { part, .. } | Label::Update { part, .. } => matches!(part, Part::Main),
+        Label::Strip => true,
+    }
+}
+
+// Whether no manager acts through a subresource.
+pub(crate) fn are_main_managers(managers: &Managers) -> bool {
+    managers.iter().all(|entry| matches!(entry.key.part, Part::Main))
 }
 
 // The step of a command and its record that was read, or why their line is refused.

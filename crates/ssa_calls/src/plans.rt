@@ -11,6 +11,7 @@ use ssa_json::moment::Moment;
 use ssa_merge::names::is_manager_name;
 use ssa_merge::plan::{Plan, plan_apply, plan_strip, plan_update};
 use ssa_merge::state::State;
+use ssa_path::part::Part;
 use ssa_schema::schema::Schema;
 use ssa_typed::alike::bodies_are_alike;
 use std::alloc::Global;
@@ -27,7 +28,7 @@ pub fn applied(alloc: Global, schema: &Schema, state: &State, config: &Config) -
     let at = Moment::read(AT)?;
     let body = body_of(alloc, schema, config.text)?;
     bodies_are_alike();
-    let plan = plan_apply(alloc, state, body, who, config.force, at)?;
+    let plan = plan_apply(alloc, state, body, who, Part::Main, config.force, at)?;
     Ok(plan)
 }
 
@@ -44,7 +45,7 @@ pub fn apply(alloc: Global, sample: &Sample, config: &Config) -> Result<String, 
 pub fn update(alloc: Global, sample: &Sample) -> Result<String, Stop> {
     let at = Moment::read(AT)?;
     let object = body_of(alloc, &sample.schema, OBJECT)?;
-    let plan = plan_update(alloc, &sample.state, object, "kubectl", at)?;
+    let plan = plan_update(alloc, &sample.state, object, "kubectl", Part::Main, at)?;
     let text = state_text(alloc, &plan.target)?;
     Ok(text)
 }

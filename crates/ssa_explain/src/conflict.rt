@@ -82,6 +82,10 @@ fn push_field(
     text.extend_from_slice(manager.name.as_str().as_bytes())?;
     text.extend_from_slice(b" (")?;
     text.extend_from_slice(manager.operation.text().as_bytes())?;
+    if let Some(subresource) = manager.part.subresource() {
+        text.extend_from_slice(b", subresource ")?;
+        text.extend_from_slice(subresource.as_bytes())?;
+    }
     text.extend_from_slice(b"), configured as ")?;
     push_value_at(text, configured, path)?;
     text.push(b'\n')?;

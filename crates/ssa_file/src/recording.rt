@@ -45,8 +45,32 @@ pub(crate) fn put_number(
     put_member(alloc, members, name, value)
 }
 
+/// A format of bench files of records.
+#[derive(Clone, Copy, Debug, PartialEq, Eq)]
+pub enum RecordFormat {
+    /// No manager acts through a subresource.
+    Records,
+    /// Managers may act through subresources.
+    Parts,
+}
+
+impl RecordFormat {
+    /// The number that the first line has.
+    pub fn number(self) -> usize {
+        match self {
+            RecordFormat::Records => 2,
+            RecordFormat::Parts => 3,
+        }
+    }
+}
+
 /// The value of the first line: how many commands can be undone, and how many redone.
-pub fn record_head(alloc: Global, past: usize, future: usize) -> Result<Json, AllocError>
+pub fn record_head(
+    alloc: Global,
+    format: RecordFormat,
+    past: usize,
+    future: usize,
+) -> Result<Json, AllocError>
     requires past { past < 2 ^ 63 }
     requires future { future < 2 ^ 63 }
     ensures { IfOk result (λ v. view v ≡ record_head past future) }
@@ -54,7 +78,7 @@ pub fn record_head(alloc: Global, past: usize, future: usize) -> Result<Json, Al
     let mut members = Members::new(alloc);
     put_number(alloc, &mut members, "past", past)?;
     put_number(alloc, &mut members, "future", future)?;
-    put_number(alloc, &mut members, "format", 2)?;
+    put_number(alloc, &mut members, "format", format.number())?;
     Ok(Json::Object(members))
 }
 
@@ -172,7 +196,12 @@ fn opening_text(
     ensures of_program { OnOk result (All IsOfProgram (opening_values (bench_with schema.now identity.now history.now))) }
     ensures refused { IfErr result (λ f. CannotHold f (flat_map line (opening_values (bench_with schema.now identity.now history.now)))) }
 {
-    let head = record_head(alloc, history.past_len(), history.future_len())?;
+    let head = record_head(
+        alloc,
+        RecordFormat::Parts,
+        history.past_len(),
+        history.future_len(),
+    )?;
     let present = object_of_state(alloc, identity, schema, true, history.present())?;
     let mut text = Vec::new(alloc);
     push_line(&mut text, &head)?;

@@ -40,6 +40,7 @@ code_view code.HistoryFull = model.history_full
 code_view code.NothingToUndo = model.nothing_to_undo
 code_view code.NothingToRedo = model.nothing_to_redo
 code_view code.CommandShape = model.command_shape
+code_view code.NoSubresource = model.no_subresource
 code_view code.BenchText = model.bench_text
 code_view code.RecordDoesNotFit = model.record_does_not_fit
 code_view code.Io = model.io

@@ -73,6 +73,8 @@ pub enum FaultCode {
     NothingToRedo,
     /// A value is no command.
     CommandShape,
+    /// The schema has no such subresource.
+    NoSubresource,
     /// A file is not the text of a bench.
     BenchText,
     /// A record in a bench's file is none from its state to a valid one.
@@ -136,6 +138,7 @@ impl FaultCode {
             FaultCode::NothingToUndo => ("64", "NothingToUndo"),
             FaultCode::NothingToRedo => ("65", "NothingToRedo"),
             FaultCode::CommandShape => ("66", "CommandShape"),
+            FaultCode::NoSubresource => ("67", "NoSubresource"),
             FaultCode::BenchText => ("70", "BenchText"),
             FaultCode::RecordDoesNotFit => ("71", "RecordDoesNotFit"),
             FaultCode::Io => ("72", "Io"),

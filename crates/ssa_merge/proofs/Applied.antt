@@ -7,12 +7,12 @@ use Rattle.std.specs.declared.alloc.Global.{Global}
 use Rattle.std.specs.Prelude.{Option, Some, None, Result, Ok, Err, Vec, if◌then◌else◌}
 use Rattle.ssa_model.specs.definitions.Limits.{most_places, most_managers}
 use Rattle.ssa_model.specs.definitions.Json.{Text}
-use Rattle.ssa_model.specs.definitions.PathMap.{size, PathSet}
+use Rattle.ssa_model.specs.definitions.PathMap.{size, union, PathSet}
 use Rattle.ssa_model.specs.definitions.Body as bodies
 use Rattle.ssa_model.specs.definitions.Body.{points, modified}
 use Rattle.ssa_model.specs.definitions.Table.{ManagerKey, Table, seat}
 use Rattle.ssa_model.specs.definitions.Operations as model
-use Rattle.ssa_model.specs.definitions.Operations.{State, Clash, decided, conflict, too_many_paths, too_many_managers, is_none, if_seated, pruned, clashes}
+use Rattle.ssa_model.specs.definitions.Operations.{State, Clash, decided, conflict, too_many_paths, too_many_managers, is_none, if_seated, owned_outside, pruned, clashes}
 use Rattle.ssa_typed.specs.Differences.{IsComparison}
 use Rattle.ssa_merge.specs.TableChanges.{IsSeated, LeadsTo}
 use Rattle.ssa_merge.specs.Managers.{conflict_view}
@@ -36,15 +36,15 @@ module _ (state : State) (a : ManagerKey) (config : bodies.Body) (force : Bool) 
   abbrev given : bodies.Body → Result State model.Refusal
   given body =
       let changed = modified state.body body in
-      decided force (clashes a changed state.table) (record { body = body; table = seat state.table a (points config) changed changed at })
+      decided force (clashes a changed state.table) (record { body = body; table = seat state.table a (union (points config) (owned_outside state.table a)) changed changed at })
 
   -- an Apply is decided as its body, its clashes, its places and its table, computed one by one, say
   pub apply-decided : (body : bodies.Body) (clash : List Clash) (places : ℕ) (table : Table)
       → body ≡ pruned state a config
       → clash ≡ clashes a (modified state.body body) state.table
       → places ≡ size body
-      → table ≡ seat state.table a (points config) (modified state.body body) (modified state.body body) at
-      → model.apply state a config force at ≡ counted force clash places body table
+      → table ≡ seat state.table a (union (points config) (owned_outside state.table a)) (modified state.body body) (modified state.body body) at
+      → model.apply_part state a config force at ≡ counted force clash places body table
   apply-decided body clash places table b c n t = ap given (sym b) ∙ (λ i. counted force (sym c i) (sym n i) body (sym t i))
 
 -- ---- the conflict

@@ -4,6 +4,7 @@ use Rattle.std.specs.Prelude.{Option, Some, None, if◌then◌else◌}
 use Rattle.ssa_model.specs.definitions.Path.{Path, is_key_field, is_root, same_path}
 use Rattle.ssa_model.specs.definitions.PathMap.{PathSet, empty, has, has_at_or_above, has_at_or_below, is_empty, paths, same_set, set_of, minus, union}
 use Rattle.ssa_model.specs.definitions.Body as model
+use Rattle.ssa_model.specs.definitions.Parts.{Subresource, is_path_of}
 use Rattle.ssa_model.specs.definitions.Table.{ManagerKey, Entry, Table, entry_of, same_manager, owned_by, owned_by_others}
 use Rattle.ssa_model.specs.definitions.Operations.{State, dropped, kept, pruned}
 use Rattle.ssa_model.proofs.PathMaps.{has-minus, has-paths, has-set_of, has-union, same_set-true, same_sets, is_one_of}
@@ -42,13 +43,19 @@ neither true false there h = ap not (sym h)
 neither false true there h = ap not (sym h)
 neither false false there h = ap not (sym h)
 
--- what has no point of the configuration at or below it, and is not the root, it leaves out
-pub unreached : (own : PathSet) (config : model.Body) → PointsTellPlaces config
-    → set_of (paths (set_of (paths own) (λ p. not (has_at_or_below (model.points config) p)))) (λ p. not (is_root p))
-    ≡ set_of (paths own) (λ p. not (has config p))
-unreached own config law =
-    twice (paths own) (λ p. not (has_at_or_below (model.points config) p)) (λ p. not (is_root p))
-    ∙ (λ i. set_of (paths own) (λ p. neither (is_root p) (has_at_or_below (model.points config) p) (has config p) (law p) i))
+neither-in : (m root below there : Bool) → there ≡ (root || below) → (not below && (m && not root)) ≡ (m && not there)
+neither-in true root below there h = neither root below there h
+neither-in false root below there h = and-false (not below)
+
+-- what has no point of the configuration at or below it, is of the part and not the root, it leaves out
+pub unreached : (own : PathSet) (s : Subresource) (config : model.Body) → PointsTellPlaces config
+    → set_of (paths (set_of (paths (set_of (paths own) (λ p. not (has_at_or_below (model.points config) p)))) (is_path_of s))) (λ p. not (is_root p))
+    ≡ set_of (paths own) (λ p. is_path_of s p && not (has config p))
+unreached own s config law =
+    let bare = set_of (paths own) (λ p. not (has_at_or_below (model.points config) p)) in
+    twice (paths bare) (is_path_of s) (λ p. not (is_root p))
+    ∙ twice (paths own) (λ p. not (has_at_or_below (model.points config) p)) (λ p. is_path_of s p && not (is_root p))
+    ∙ (λ i. set_of (paths own) (λ p. neither-in (is_path_of s p) (is_root p) (has_at_or_below (model.points config) p) (has config p) (law p) i))
 
 -- the paths that an entry owns, none where there is no entry
 abbrev pub set_in : Option Entry → PathSet
@@ -66,15 +73,18 @@ owned-entry (e ∷ es) a = picked (same_manager e.manager a) e (owned_by es a) (
 
 -- what an applier's entry owns and the configuration has not is what it leaves out
 pub absent-of : (state : State) (a : ManagerKey) (config : model.Body) (o : Option Entry) → o ≡ entry_of state.table a
-    → set_of (paths (set_in o)) (λ g. not (has config g)) ≡ absent state a config
-absent-of state a config o is = λ i. set_of (paths ((ap set_in is ∙ sym (owned-entry state.table a)) i)) (λ g. not (has config g))
+    → set_of (paths (set_in o)) (λ g. is_path_of a.part g && not (has config g)) ≡ absent state a config
+absent-of state a config o is = λ i. set_of (paths ((ap set_in is ∙ sym (owned-entry state.table a)) i)) (λ g. is_path_of a.part g && not (has config g))
 
 -- what is given up of what is left out
 pub dropped-absent : (state : State) (a : ManagerKey) (config : model.Body) (left : PathSet) (table : Table) → left ≡ absent state a config → table ≡ state.table
     → set_of (paths left) (λ g. not (is_key_field g) && not (has_at_or_below (owned_by_others table a) g)) ≡ dropped state a config
 dropped-absent state a config left table is same =
     (λ i. set_of (paths (is i)) (λ g. not (is_key_field g) && not (has_at_or_below (owned_by_others (same i) a) g)))
-    ∙ twice (paths (owned_by state.table a)) (λ g. not (has config g)) (λ g. not (is_key_field g) && not (has_at_or_below (owned_by_others state.table a) g))
+    ∙ twice (paths (owned_by state.table a)) (λ g. is_path_of a.part g && not (has config g))
+    (λ g. not (is_key_field g) && not (has_at_or_below (owned_by_others state.table a) g))
+    ∙ (λ i. set_of (paths (owned_by state.table a)) (λ g. both (is_path_of a.part g) (not (has config g)) (not (is_key_field g)
+    && not (has_at_or_below (owned_by_others state.table a) g)) i))
 
 no-entries : (s : PathSet) → is_empty s ≡ true → paths s ≡ []
 no-entries s h = elim s.entries as (λ es. elim es [ [] ↦ true | e ∷ rest ↦ false ] ≡ true

@@ -5,6 +5,7 @@ use Rattle.ssa_model.specs.definitions.Path.{Path, is_item, is_key_field, is_roo
 use Rattle.ssa_model.specs.definitions.PathMap.{PathSet, get, has, has_at_or_above, has_at_or_below, paths, set_of, union}
 use Rattle.ssa_model.specs.definitions.Body as model
 use Rattle.ssa_model.specs.definitions.Body.{is_bare, is_dict, is_leaf, is_ownable, is_point, over, points}
+use Rattle.ssa_model.specs.definitions.Parts.{is_path_of}
 use Rattle.ssa_model.specs.definitions.Table.{ManagerKey, Table, owned_by, owned_by_others}
 use Rattle.ssa_model.specs.definitions.Operations.{State, dropped, kept, pruned}
 use Rattle.ssa_model.specs.definitions.Valid.{AllEntries, OwnsOwnable}
@@ -36,8 +37,10 @@ gone-free : (state : State) (a : ManagerKey) (config : model.Body) (g : Path) �
     → (has config g ≡ false) × (has_at_or_below (owned_by_others state.table a) g ≡ false)
 gone-free state a config g lost =
     let others = owned_by_others state.table a in
-    let test = second_so (is_one_of (paths (owned_by state.table a)) g) (not (has config g) && (not (is_key_field g) && not (has_at_or_below others g)))
-    (sym (has-set_of (paths (owned_by state.table a)) (λ p. not (has config p) && (not (is_key_field p) && not (has_at_or_below others p))) g) ∙ lost) in
+    let free : Path → Bool = λ p. not (has config p) && (not (is_key_field p) && not (has_at_or_below others p)) in
+    let test = second_so (is_path_of a.part g) (free g)
+    (second_so (is_one_of (paths (owned_by state.table a)) g) (is_path_of a.part g && free g)
+    (sym (has-set_of (paths (owned_by state.table a)) (λ p. is_path_of a.part p && free p) g) ∙ lost)) in
     let rest = second_so (not (has config g)) (not (is_key_field g) && not (has_at_or_below others g)) test in (
       not_true (has config g) (first_so (not (has config g)) (not (is_key_field g) && not (has_at_or_below others g)) test),
       not_true (has_at_or_below others g) (second_so (not (is_key_field g)) (not (has_at_or_below others g)) rest),

@@ -5,6 +5,7 @@ use Rattle.ssa_model.specs.definitions.PathMap.{PathSet, empty, has, paths, set_
 use Rattle.ssa_model.specs.definitions.Body as model
 use Rattle.ssa_model.specs.definitions.Body.{is_point, points}
 use Rattle.ssa_model.specs.definitions.Operations.{State}
+use Rattle.ssa_model.specs.definitions.Parts.{is_path_of}
 use Rattle.ssa_model.specs.definitions.Table.{ManagerKey, Entry, entry_of, owned_by, same_manager}
 use Rattle.ssa_model.specs.definitions.Valid.{AllEntries, has_distinct_keys}
 use Rattle.ssa_model.proofs.ManagerEntries.{entry-own}
@@ -15,17 +16,18 @@ use Rattle.ssa_merge.specs.Managers.{entry_view, table_view}
 use Rattle.ssa_merge.specs.declared.managers.Entry as merge
 use Rattle.ssa_merge.proofs.GivenUp.{owned-entry, set_in}
 
-not_without : (a p h : Bool) → h ≡ a → ((a && p) && not h) ≡ false
-not_without true true h is = ap not is
-not_without true false h is = refl
-not_without false p h is = refl
+not_without : (a p m h : Bool) → h ≡ a → ((a && p) && (m && not h)) ≡ false
+not_without true true true h is = ap not is
+not_without true true false h is = refl
+not_without true false m h is = refl
+not_without false p m h is = refl
 
 -- who owns the points of its configuration leaves nothing out
 pub absent-none : (state : State) (a : ManagerKey) (config : model.Body) → owned_by state.table a ≡ points config → empty ≡ absent state a config
-absent-none state a config own = sym (ap (λ s. set_of (paths s) (λ g. not (has config g))) own ∙ same_sets _ _ (λ q.
-    has-set_of (paths (points config)) (λ g. not (has config g)) q
-    ∙ ap (λ b. b && not (has config q)) (sym (has-paths (points config) q) ∙ has-set_of (paths config) (is_point config) q)
-    ∙ not_without (is_one_of (paths config) q) (is_point config q) (has config q) (has-paths config q)))
+absent-none state a config own = sym (ap (λ s. set_of (paths s) (λ g. is_path_of a.part g && not (has config g))) own ∙ same_sets _ _ (λ q.
+    has-set_of (paths (points config)) (λ g. is_path_of a.part g && not (has config g)) q
+    ∙ ap (λ b. b && (is_path_of a.part q && not (has config q))) (sym (has-paths (points config) q) ∙ has-set_of (paths config) (is_point config) q)
+    ∙ not_without (is_one_of (paths config) q) (is_point config q) (is_path_of a.part q) (has config q) (has-paths config q)))
 
 entry-at : (P : Entry → Type 0) (es : List merge.Entry) (i : ℕ) (e : merge.Entry) → AllEntries P (table_view es) → i < length es → e ≡ get_or es i e
     → P (entry_view e)

@@ -20,3 +20,4 @@ mod EntryMembers
 mod NotOwnable
 mod EntryFaults
 mod EntriesBack
+pub mod OwnOutside

@@ -1,16 +1,16 @@
 -- Changes of valid states lead to valid states, and keep the managers' order.
-use Rattle.std.proofs.Common.{◌≡◌, ◌≤◌, List, [], ◌∷◌, Bool, true, refl, sym, subst, ◌∙◌}
+use Rattle.std.proofs.Common.{◌≡◌, List, [], ◌∷◌, Bool, true, refl, sym, subst, ◌∙◌}
 use Rattle.std.specs.Prelude.{Result, Ok, Err, IfOk, filter, map}
-use Rattle.ssa_model.specs.definitions.Limits.{most_places}
 use Rattle.ssa_model.specs.definitions.Json.{Text}
 use Rattle.ssa_model.specs.definitions.Kind.{Kind}
 use Rattle.ssa_model.specs.definitions.Fitting.{IsBodyOf}
-use Rattle.ssa_model.specs.definitions.PathMap.{PathSet, size, minus, union}
+use Rattle.ssa_model.specs.definitions.PathMap.{PathSet, minus, union}
 use Rattle.ssa_model.specs.definitions.Body.{Body, points, added, modified, removed}
 use Rattle.ssa_model.specs.definitions.History.{is_manager_name}
+use Rattle.ssa_model.specs.definitions.Parts.{part_of, spliced}
 use Rattle.ssa_model.specs.definitions.Table.{ManagerKey, is_in_table, owned_by}
 use Rattle.ssa_model.specs.definitions.Operations as model
-use Rattle.ssa_model.specs.definitions.Operations.{State, pruned, apply, update, strip}
+use Rattle.ssa_model.specs.definitions.Operations.{State, owned_outside, pruned, apply, update, strip}
 use Rattle.ssa_model.specs.definitions.Valid.{IsRooted, IsValidState, KeepsOrder, has_distinct_keys}
 use Rattle.ssa_model.proofs.Accepted.{applied_is, updated_is}
 use Rattle.ssa_model.proofs.SharedManagers.{operations_keep_order}
@@ -37,13 +37,13 @@ applied_valid state a config force at (Ok c) name rooted h = λ kind valid fits.
     subst (IsValidState kind) (same_state state c h.0 h.2) (apply_keeps_valid kind state h.0 a config force at valid fits rooted name h.1)
 applied_valid state a config force at (Err f) name rooted h = tt
 
--- an Update by an object of the state's kind with few enough places leads from a valid state to a valid one
+-- an Update by an object of the state's kind leads from a valid state to a valid one
 pub updated_valid : (state : State) (u : ManagerKey) (object : Body) (at : Text) (r : Result Change Refusal) → is_manager_name u.name ≡ true
     → IsRooted object → IsChanged state r (update state u object at)
-    → IfOk r (λ c. (kind : Kind) → IsValidState kind state → IsBodyOf kind object → size object ≤ most_places
+    → IfOk r (λ c. (kind : Kind) → IsValidState kind state → IsBodyOf kind object
     → IsValidState kind (changed_state state c.body c.comparison.removed c.table))
-updated_valid state u object at (Ok c) name rooted h = λ kind valid fits few.
-    subst (IsValidState kind) (same_state state c h.0 h.2) (update_keeps_valid kind state h.0 u object at valid fits rooted few name h.1)
+updated_valid state u object at (Ok c) name rooted h = λ kind valid fits.
+    subst (IsValidState kind) (same_state state c h.0 h.2) (update_keeps_valid kind state h.0 u object at valid fits rooted name h.1)
 updated_valid state u object at (Err f) name rooted h = tt
 
 -- a strip leads from a valid state to a valid one
@@ -62,19 +62,21 @@ changed_order before after c h order = subst (λ s. KeepsOrder before.table s.ta
 pub applied_order : (state : State) (a : ManagerKey) (config : Body) (force : Bool) (at : Text) (r : Result Change Refusal)
     → IsChanged state r (apply state a config force at) → IfOk r (ChangesInOrder state)
 applied_order state a config force at (Ok c) h = λ distinct.
-    let changed = modified state.body (pruned state a config) in
+    let own = part_of a.part config in
+    let changed = modified state.body (pruned state a own) in
     changed_order state h.0 c h.2
     (subst (λ s. KeepsOrder state.table s.table) (applied_is state h.0 a config force at h.1).0
-    (operations_keep_order state.table a (points config) changed changed at distinct))
+    (operations_keep_order state.table a (union (points own) (owned_outside state.table a)) changed changed at distinct))
 applied_order state a config force at (Err f) h = tt
 
 -- the managers that stay after an Update keep their order
 pub updated_order : (state : State) (u : ManagerKey) (object : Body) (at : Text) (r : Result Change Refusal) → IsChanged state r (update state u object at)
     → IfOk r (ChangesInOrder state)
 updated_order state u object at (Ok c) h = λ distinct.
-    let changed = modified state.body object in
-    let gone = removed state.body object in
-    let owned = union (minus (owned_by state.table u) gone) (union changed (added state.body object)) in
+    let body = spliced u.part object state.body in
+    let changed = modified state.body body in
+    let gone = removed state.body body in
+    let owned = union (minus (owned_by state.table u) gone) (union changed (added state.body body)) in
     changed_order state h.0 c h.2
     (subst (λ s. KeepsOrder state.table s.table) (updated_is state h.0 u object at h.1).0
     (operations_keep_order state.table u owned (union changed gone) changed at distinct))

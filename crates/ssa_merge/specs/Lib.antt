@@ -7,3 +7,4 @@ pub mod TableChanges
 pub mod States
 pub mod Plans
 pub mod EntriesBack
+pub mod InPart

@@ -5,6 +5,7 @@ use Rattle.std.specs.declared.alloc.Global.{Global}
 use Rattle.ssa_model.specs.definitions.PathMap.{PathSet}
 use Rattle.ssa_model.specs.definitions.Table as model
 use Rattle.ssa_model.specs.definitions.Operations.{Clash}
+use Rattle.ssa_path.specs.Subresources.{part_view}
 use Rattle.ssa_merge.specs.declared.manager.Operation.{Operation}
 use Rattle.ssa_merge.specs.declared.manager.Operation.TheVariants.{Apply, Update}
 use Rattle.ssa_merge.specs.declared.manager.ManagerKey.{ManagerKey}
@@ -15,7 +16,7 @@ operation_view Apply = model.applies
 operation_view Update = model.updates
 
 abbrev pub key_view : ManagerKey → model.ManagerKey
-key_view k = record { name = string_bytes k.name; operation = operation_view k.operation }
+key_view k = record { name = string_bytes k.name; operation = operation_view k.operation; part = part_view k.part }
 
 -- the managers that are lent
 abbrev pub lent_keys : List (Bor ManagerKey) → List model.ManagerKey

@@ -6,14 +6,16 @@ ghost use Rattle.ssa_model.specs.definitions.History.{is_manager_name};
 ghost use Rattle.ssa_model.specs.definitions.Kind.{Kind};
 ghost use Rattle.ssa_model.specs.definitions.Limits.{most_places};
 ghost use Rattle.ssa_model.specs.definitions.PathMap.{minus, size, union};
-ghost use Rattle.ssa_model.specs.definitions.Table.{owned_by};
+ghost use Rattle.ssa_model.specs.definitions.Table.{applies, key_of, owned_by, updates};
 ghost use Rattle.ssa_model.specs.definitions.Operations as model;
-ghost use Rattle.ssa_model.specs.definitions.Operations.{apply, clashes, pruned, strip, update};
+ghost use Rattle.ssa_model.specs.definitions.Operations.{apply, apply_part, clashes, owned_outside, pruned, strip, update, update_to};
 ghost use Rattle.ssa_model.specs.definitions.Valid.{AllEntries, IsValidState, OwnsOwnable};
 ghost use Rattle.ssa_typed.specs.Alike.{AreAlike};
 ghost use Rattle.ssa_typed.specs.Differences.{IsComparison, IsPartComparison};
+ghost use Rattle.ssa_merge.specs.InPart.{IsOfPart};
 ghost use Rattle.ssa_merge.specs.Managers.{conflict_view, key_view, operation_view};
-ghost use Rattle.ssa_merge.specs.States.{state_view, applier, updater};
+ghost use Rattle.ssa_path.specs.Subresources.{part_view};
+ghost use Rattle.ssa_merge.specs.States.{actor, state_view};
 ghost use Rattle.ssa_merge.specs.Plans.{body_after, changed_state, conflict_of, CanStand, ChangesInOrder, HasRoom, IsChange, IsChanged, IsPlan};
 
 use crate::body_change::{BodyChange, body_change, body_if_other, has_too_many_places, laid_over};
@@ -27,7 +29,8 @@ use crate::table_change::TableChange;
 use ssa_json::moment::Moment;
 use ssa_members::Name;
 use ssa_path::field_set::FieldSet;
-use ssa_typed::body::Body;
+use ssa_path::part::Part;
+use ssa_typed::body::{Body, MOST_PLACES};
 use ssa_typed::compare::Comparison;
 use ssa_typed::part::PartComparison;
 use std::alloc::{AllocError, Global};
@@ -77,11 +80,20 @@ impl Change {
 }
 
 // The manager of a name.
-fn key_of(alloc: Global, who: &str, operation: Operation) -> Result<ManagerKey, AllocError>
-    ensures { IfOk result (λ k. key_view k ≡ record { name = who.now; operation = operation_view operation }) }
+fn key_of(
+    alloc: Global,
+    who: &str,
+    operation: Operation,
+    part: Part,
+) -> Result<ManagerKey, AllocError>
+    ensures { IfOk result (λ k. key_view k ≡ key_of (operation_view operation) (actor who.now (part_view part))) }
 {
     let name = Name::from_str(alloc, who)?;
-    Ok(ManagerKey { name, operation })
+    Ok(ManagerKey {
+        name,
+        operation,
+        part,
+    })
 }
 
 // The conflict by which an Apply that changes these fields is refused: none where it is forced, for which nobody's fields
@@ -130,8 +142,8 @@ fn applied_with(
     ensures change { (config : ModelBody) → body_after made.body made.comparison.removed state.now.body ≡ pruned (state_view state.now) (key_view key.now) config
         → IsComparison state.now.body (pruned (state_view state.now) (key_view key.now) config) made.comparison
         → conflict_of force (clashes (key_view key.now) (modified state.now.body (pruned (state_view state.now) (key_view key.now) config)) state.now.managers) ≡ None
-        → unwrap_or owned (owned_by state.now.managers (key_view key.now)) ≡ points config
-        → IsChanged (state_view state.now) result (apply (state_view state.now) (key_view key.now) config force at) }
+        → unwrap_or owned (owned_by state.now.managers (key_view key.now)) ≡ union (points config) (owned_outside state.now.managers (key_view key.now))
+        → IsChanged (state_view state.now) result (apply_part (state_view state.now) (key_view key.now) config force at) }
     ensures stands { IfOk result (λ c. CanStand c.body c.comparison.removed state.now.body) }
 {
     let BodyChange { body, comparison } = made;
@@ -151,6 +163,25 @@ fn applied_with(
     }
 }
 
+// These paths, and those that the manager owns outside its part: mostly it owns none there.
+fn with_outside(
+    alloc: Global,
+    state: &State,
+    key: &ManagerKey,
+    points: FieldSet,
+) -> Result<FieldSet, AllocError>
+    ensures { IfOk result (λ s. s ≡ union points (owned_outside state.now.managers (key_view key.now))) }
+{
+    let Some(entry) = state.managers.get(key) else {
+        return Ok(points);
+    };
+    let outside = entry.set.outside(alloc, key.part)?;
+    if outside.is_empty() {
+        return Ok(points);
+    }
+    points.union(alloc, &outside)
+}
+
 // What an Apply of a configuration without a conflict changes. Mostly the manager owns the points of its configuration
 // already, and they are not made anew.
 fn applied_freely(
@@ -165,9 +196,10 @@ fn applied_freely(
     requires alike { AreAlike state.now.body config }
     requires named { is_manager_name (key_view key.now).name ≡ true }
     requires owned { AllEntries (OwnsOwnable state.now.body) state.now.managers }
+    requires part { IsOfPart (key_view key.now).part config }
     requires told { IsPartComparison state.now.body config told }
     requires quiet { conflict_of force (clashes (key_view key.now) (modified state.now.body (pruned (state_view state.now) (key_view key.now) config)) state.now.managers) ≡ None }
-    ensures change { IsChanged (state_view state.now) result (apply (state_view state.now) (key_view key.now) config force at) }
+    ensures change { IsChanged (state_view state.now) result (apply_part (state_view state.now) (key_view key.now) config force at) }
     ensures stands { IfOk result (λ c. CanStand c.body c.comparison.removed state.now.body) }
 {
     if let Some(entry) = state.managers.get(key) {
@@ -178,7 +210,8 @@ fn applied_freely(
     }
     let points = config.points(alloc)?;
     let made = body_change(alloc, state, key, config, told, &points, false)?;
-    applied_with(alloc, state, key, made, Some(points), force, at)
+    let owned = with_outside(alloc, state, key, points)?;
+    applied_with(alloc, state, key, made, Some(owned), force, at)
 }
 
 // What an Apply of a configuration by a manager changes. Whether it conflicts is told by what the configuration would
@@ -194,7 +227,8 @@ fn applied(
     requires alike { AreAlike state.now.body config }
     requires named { is_manager_name (key_view key.now).name ≡ true }
     requires owned { AllEntries (OwnsOwnable state.now.body) state.now.managers }
-    ensures change { IsChanged (state_view state.now) result (apply (state_view state.now) (key_view key.now) config force at) }
+    requires part { IsOfPart (key_view key.now).part config }
+    ensures change { IsChanged (state_view state.now) result (apply_part (state_view state.now) (key_view key.now) config force at) }
     ensures stands { IfOk result (λ c. CanStand c.body c.comparison.removed state.now.body) }
 {
     config.points_tell_places();
@@ -212,20 +246,22 @@ pub fn change_apply(
     state: &State,
     config: Body,
     who: &str,
+    part: Part,
     force: bool,
     at: Moment,
 ) -> Result<Change, Refusal>
     requires alike { AreAlike state.now.body config }
     requires named { is_manager_name who.now ≡ true }
     requires owned { AllEntries (OwnsOwnable state.now.body) state.now.managers }
-    ensures change { IsChanged (state_view state.now) result (apply (state_view state.now) (applier who.now) config force at) }
+    ensures change { IsChanged (state_view state.now) result (apply (state_view state.now) (key_of applies (actor who.now (part_view part))) config force at) }
     ensures valid { IfOk result (λ c. (kind : Kind) → IsValidState kind (state_view state.now) → IsBodyOf kind config → IsValidState kind (changed_state (state_view state.now) c.body c.comparison.removed c.table)) }
     ensures order { IfOk result (ChangesInOrder (state_view state.now)) }
     ensures stands { IfOk result (λ c. CanStand c.body c.comparison.removed state.now.body) }
 {
-    let key = key_of(alloc, who, Operation::Apply)?;
+    let key = key_of(alloc, who, Operation::Apply, part)?;
     config.stands_rooted();
-    applied(alloc, state, &key, config, force, at)
+    let own = config.into_part(part);
+    applied(alloc, state, &key, own, force, at)
 }
 
 // The paths of either set, none where they are those of the first.
@@ -284,7 +320,7 @@ fn owned_after_update(
     }
 }
 
-// What an Update to an object by a manager changes.
+// What an Update to a body by a manager changes.
 fn updated(
     alloc: Global,
     state: &State,
@@ -293,9 +329,12 @@ fn updated(
     at: Moment,
 ) -> Result<Change, Refusal>
     requires { is_manager_name (key_view key.now).name ≡ true }
-    ensures change { IsChanged (state_view state.now) result (update (state_view state.now) (key_view key.now) object at) }
+    ensures change { IsChanged (state_view state.now) result (update_to (state_view state.now) (key_view key.now) object at) }
     ensures stands { IfOk result (λ c. CanStand c.body c.comparison.removed state.now.body) }
 {
+    if object.size() > MOST_PLACES {
+        return Err(Refusal::TooManyPaths);
+    }
     let comparison = state.body.compare(alloc, &object)?;
     let owned = owned_after_update(alloc, state, key, &comparison)?;
     let changed = &comparison.modified;
@@ -318,17 +357,20 @@ pub fn change_update(
     state: &State,
     object: Body,
     who: &str,
+    part: Part,
     at: Moment,
 ) -> Result<Change, Refusal>
     requires { is_manager_name who.now ≡ true }
-    ensures change { IsChanged (state_view state.now) result (update (state_view state.now) (updater who.now) object at) }
-    ensures valid { IfOk result (λ c. (kind : Kind) → IsValidState kind (state_view state.now) → IsBodyOf kind object → size object ≤ most_places → IsValidState kind (changed_state (state_view state.now) c.body c.comparison.removed c.table)) }
+    ensures change { IsChanged (state_view state.now) result (update (state_view state.now) (key_of updates (actor who.now (part_view part))) object at) }
+    ensures valid { IfOk result (λ c. (kind : Kind) → IsValidState kind (state_view state.now) → IsBodyOf kind object → IsValidState kind (changed_state (state_view state.now) c.body c.comparison.removed c.table)) }
     ensures order { IfOk result (ChangesInOrder (state_view state.now)) }
     ensures stands { IfOk result (λ c. CanStand c.body c.comparison.removed state.now.body) }
 {
-    let key = key_of(alloc, who, Operation::Update)?;
+    let key = key_of(alloc, who, Operation::Update, part)?;
     object.stands_rooted();
-    updated(alloc, state, &key, object, at)
+    state.body.stands_rooted();
+    let body = object.splice(alloc, &state.body, part)?;
+    updated(alloc, state, &key, body, at)
 }
 
 /// What a Strip changes: the body stays, and all managers leave.

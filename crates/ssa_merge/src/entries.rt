@@ -15,7 +15,7 @@ impl Entry {
     /// The entry of `managedFields`, for an object of this `apiVersion`.
     ///
     /// It has exactly the members `apiVersion`, `fieldsType`, `fieldsV1`, `manager`, `operation` and
-    /// `time`, as
+    /// `time`, and `subresource` where the manager acts through one, as
     /// [ManagedFieldsEntry](https://kubernetes.io/docs/reference/kubernetes-api/common-definitions/object-meta/)
     /// has them.
     pub fn to_json(&self, alloc: Global, api_version: &str) -> Result<Json, AllocError>
@@ -25,6 +25,9 @@ impl Entry {
         let time = self.at.to_text(alloc)?;
         let mut members = Members::new(alloc);
         put_text(alloc, &mut members, "time", time.as_str())?;
+        if let Some(subresource) = self.key.part.subresource() {
+            put_text(alloc, &mut members, "subresource", subresource)?;
+        }
         put_text(alloc, &mut members, "operation", self.key.operation.text())?;
         put_text(alloc, &mut members, "manager", self.key.name.as_str())?;
         put_member(alloc, &mut members, "fieldsV1", fields)?;

@@ -15,12 +15,14 @@ use ssa_json::members::{find_member, has_member};
 use ssa_json::text::is_same_text;
 use ssa_json::value::Json;
 use ssa_members::Members;
+use ssa_path::part::Part;
 
 /// What an entry says.
 #[derive(Drop)]
 pub struct Said<'a> {
     pub name: &'a str,
     pub operation: Operation,
+    pub part: Part,
     pub version: &'a str,
     pub time: &'a str,
     pub fields: &'a Json,
@@ -37,10 +39,33 @@ fn is_text_name(name: &str) -> bool
         || is_same_text(name, "time")
 }
 
+// Whether the value is the name of a subresource.
+fn is_subresource(value: &Json) -> bool
+    ensures { result ≡ is_subresource (view value.now) }
+{
+    match value.as_text() {
+        Some(text) => is_same_text(text, "status"),
+        None => false,
+    }
+}
+
+// The part that the members tell, of which a `subresource` is the name of one.
+fn part_of(members: &Members<Json>) -> Part
+    ensures { part_view result ≡ subresource_in (member_of (codes "subresource") (members_view members.now.entries)) }
+{
+    if has_member(members, "subresource") {
+        Part::Status
+    } else {
+        Part::Main
+    }
+}
+
 fn is_entry_member(name: &str, value: &Json) -> bool
     ensures { result ≡ is_entry_member name.now (view value.now) }
 {
-    is_same_text(name, "fieldsV1") || (is_text_name(name) && value.as_text().is_some())
+    is_same_text(name, "fieldsV1")
+        || (is_text_name(name) && value.as_text().is_some())
+        || (is_same_text(name, "subresource") && is_subresource(value))
 }
 
 fn are_entry_members(members: &Members<Json>) -> bool
@@ -106,6 +131,7 @@ fn said_by(members: &Members<Json>) -> Option<Said<'_>>
     Some(Said {
         name: text_at(members, "manager"),
         operation,
+        part: part_of(members),
         version: text_at(members, "apiVersion"),
         time: text_at(members, "time"),
         fields,
@@ -114,7 +140,8 @@ fn said_by(members: &Members<Json>) -> Option<Said<'_>>
 
 /// What a value says as an entry, where it is one: an object of exactly the members `apiVersion`,
 /// `fieldsType`, `fieldsV1`, `manager`, `operation` and `time`, texts but for `fieldsV1`, with the
-/// fields type `FieldsV1` and the operation `Apply` or `Update`.
+/// fields type `FieldsV1` and the operation `Apply` or `Update`, and of a `subresource`, which is
+/// `status`, where it was owned through one.
 pub fn said_in(entry: &Json) -> Option<Said<'_>>
     ensures { MatchOption result (IsNoEntry (view entry.now)) (λ s. SaysIn (view entry.now) s) }
 {

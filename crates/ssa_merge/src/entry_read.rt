@@ -73,6 +73,7 @@ pub fn read_entry(
     let key = ManagerKey {
         name,
         operation: said.operation,
+        part: said.part,
     };
     check_owned(alloc, &key, &set, before, body)?;
     Ok(Entry { key, set, at })

@@ -29,7 +29,7 @@ fn without_root(alloc: Global, set: FieldSet) -> FieldSet
     rest
 }
 
-// The paths of the manager's at which its configuration has nothing: none where it owns the points of the
+// The paths of the manager's in its part at which its configuration has nothing: none where it owns the points of the
 // configuration already. The points tell its places, so that no walk over it is needed.
 fn left_out(
     alloc: Global,
@@ -49,7 +49,8 @@ fn left_out(
     config.points_tell_places();
     match state.managers.get(key) {
         Some(entry) => {
-            let unreached = entry.set.without_over(alloc, config_points)?;
+            let mut unreached = entry.set.without_over(alloc, config_points)?;
+            unreached.keep_part(key.part);
             Ok(without_root(alloc, unreached))
         }
         None => Ok(FieldSet::new(alloc)),

@@ -1,10 +1,11 @@
-//! Managers of fields: a name, and the operation by which it came to own them.
+//! Managers of fields: a name, and the operation and the part of the object by which it came to own them.
 ghost use Rattle.std.specs.Prelude.{◌≡◌, IfOk};
 ghost use Rattle.ssa_model.specs.definitions.Entries.{operation_text};
 ghost use Rattle.ssa_model.specs.definitions.Table.{same_operation, same_manager};
 ghost use Rattle.ssa_merge.specs.Managers.{operation_view, key_view};
 
 use ssa_members::Name;
+use ssa_path::part::Part;
 use std::alloc::{AllocError, Global};
 
 /// How a manager came to own its fields, as `operation` in an entry of `managedFields`.
@@ -14,11 +15,12 @@ pub enum Operation {
     Update,
 }
 
-/// A manager. One name has an entry of its own for each operation.
+/// A manager. One name has an entry of its own for each operation and each part.
 #[derive(Debug, Drop)]
 pub struct ManagerKey {
     pub name: Name,
     pub operation: Operation,
+    pub part: Part,
 }
 
 impl Operation {
@@ -51,7 +53,9 @@ impl ManagerKey {
     pub fn is_same(&self, other: &ManagerKey) -> bool
         ensures { result ≡ same_manager (key_view self.now) (key_view other.now) }
     {
-        self.name == other.name && self.operation.is_same(other.operation)
+        self.name == other.name
+            && self.operation.is_same(other.operation)
+            && self.part.is_same(other.part)
     }
 
     /// The same manager. A short name takes no memory.
@@ -62,6 +66,7 @@ impl ManagerKey {
         Ok(ManagerKey {
             name,
             operation: self.operation,
+            part: self.part,
         })
     }
 }

@@ -13,6 +13,7 @@ use arrayvec::ArrayVec;
 use ssa_json::moment::Moment;
 use ssa_members::Name;
 use ssa_path::field_set::FieldSet;
+use ssa_path::part::Part;
 use std::alloc::{AllocError, Global};
 use std::default::MadeWith;
 use std::marker::Model;
@@ -37,6 +38,7 @@ impl MadeWith<Global> for Entry {
             key: ManagerKey {
                 name: Name::new(),
                 operation: Operation::Apply,
+                part: Part::Main,
             },
             set: FieldSet::new(alloc),
             at: Moment::first(),

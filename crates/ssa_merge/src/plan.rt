@@ -6,9 +6,11 @@ ghost use Rattle.ssa_model.specs.definitions.History.{is_manager_name};
 ghost use Rattle.ssa_model.specs.definitions.Kind.{Kind};
 ghost use Rattle.ssa_model.specs.definitions.PathMap.{size};
 ghost use Rattle.ssa_model.specs.definitions.Operations.{apply, update, strip};
+ghost use Rattle.ssa_model.specs.definitions.Table.{applies, key_of, updates};
 ghost use Rattle.ssa_model.specs.definitions.Valid.{AllEntries, IsValidState, OwnsOwnable};
 ghost use Rattle.ssa_typed.specs.Alike.{AreAlike};
-ghost use Rattle.ssa_merge.specs.States.{state_view, applier, updater};
+ghost use Rattle.ssa_path.specs.Subresources.{part_view};
+ghost use Rattle.ssa_merge.specs.States.{actor, state_view};
 ghost use Rattle.ssa_merge.specs.Plans.{IsPlan, IsPlanned, StandInOrder};
 ghost use Rattle.ssa_merge.specs.declared.plan.Refusal.TheVariants.{OutOfMemory};
 
@@ -17,6 +19,7 @@ use crate::manager::ManagerKey;
 use crate::state::State;
 use ssa_json::moment::Moment;
 use ssa_path::field_set::FieldSet;
+use ssa_path::part::Part;
 use ssa_typed::body::Body;
 use ssa_typed::compare::Comparison;
 use std::alloc::{AllocError, Global};
@@ -76,7 +79,7 @@ impl Plan {
 
 /// Plans an Apply of a configuration by a manager.
 ///
-/// The configuration is put over the live body. What the manager owned and the configuration leaves
+/// Of the configuration counts what it has in the part. It is put over the live body. What the manager owned in the part and the configuration leaves
 /// out is given up, and goes where nobody else needs it. A change of a field that another manager
 /// owns is a conflict, unless it is forced: then the others lose the field. The manager owns the
 /// configuration's points afterwards. See the Kubernetes documentation, "Server-Side Apply".
@@ -87,41 +90,44 @@ pub fn plan_apply(
     state: &State,
     config: Body,
     who: &str,
+    part: Part,
     force: bool,
     at: Moment,
 ) -> Result<Plan, Refusal>
     requires alike { AreAlike state.now.body config }
     requires named { is_manager_name who.now ≡ true }
     requires owned { AllEntries (OwnsOwnable state.now.body) state.now.managers }
-    ensures plan { IsPlanned (state_view state.now) result (apply (state_view state.now) (applier who.now) config force at) }
+    ensures plan { IsPlanned (state_view state.now) result (apply (state_view state.now) (key_of applies (actor who.now (part_view part))) config force at) }
     ensures fits { IfOk result (λ p. (kind : Kind) → IsBodyOf kind state.now.body → IsBodyOf kind config → IsBodyOf kind p.target.body) }
     ensures valid { IfOk result (λ p. (kind : Kind) → IsValidState kind (state_view state.now) → IsBodyOf kind config → IsValidState kind (state_view p.target)) }
     ensures order { IfOk result (StandInOrder (state_view state.now)) }
 {
-    let change = change_apply(alloc, state, config, who, force, at)?;
+    let change = change_apply(alloc, state, config, who, part, force, at)?;
     let plan = change.completed(alloc, state)?;
     Ok(plan)
 }
 
 /// Plans an Update to an object by a manager.
 ///
-/// The object becomes the body. The other managers lose what is modified or removed, and the manager
-/// gains what is modified or added. An Update has no conflict; it is refused by `TooManyManagers`
-/// alone.
+/// The object becomes the body in the part; outside it the live body stays. The other managers lose what is modified or removed, and the manager
+/// gains what is modified or added. An Update has no conflict.
+///
+/// Of both refusals the first is told: `TooManyPaths`, `TooManyManagers`.
 pub fn plan_update(
     alloc: Global,
     state: &State,
     object: Body,
     who: &str,
+    part: Part,
     at: Moment,
 ) -> Result<Plan, Refusal>
     requires { is_manager_name who.now ≡ true }
-    ensures plan { IsPlanned (state_view state.now) result (update (state_view state.now) (updater who.now) object at) }
-    ensures fits { IfOk result (λ p. (kind : Kind) → IsBodyOf kind object → IsBodyOf kind p.target.body) }
-    ensures valid { IfOk result (λ p. (kind : Kind) → IsValidState kind (state_view state.now) → IsBodyOf kind object → size object ≤ most_places → IsValidState kind (state_view p.target)) }
+    ensures plan { IsPlanned (state_view state.now) result (update (state_view state.now) (key_of updates (actor who.now (part_view part))) object at) }
+    ensures fits { IfOk result (λ p. (kind : Kind) → IsBodyOf kind state.now.body → IsBodyOf kind object → IsBodyOf kind p.target.body) }
+    ensures valid { IfOk result (λ p. (kind : Kind) → IsValidState kind (state_view state.now) → IsBodyOf kind object → IsValidState kind (state_view p.target)) }
     ensures order { IfOk result (StandInOrder (state_view state.now)) }
 {
-    let change = change_update(alloc, state, object, who, at)?;
+    let change = change_update(alloc, state, object, who, part, at)?;
     let plan = change.completed(alloc, state)?;
     Ok(plan)
 }

@@ -7,6 +7,7 @@ use Rattle.ssa_model.specs.definitions.Json.{Json, object, no_members, depth}
 use Rattle.ssa_model.specs.definitions.Operations.{State}
 use Rattle.ssa_model.specs.definitions.Schema.{at_root}
 use Rattle.ssa_model.specs.definitions.Replies.{label_json}
+use Rattle.ssa_model.specs.definitions.Parts.{main, status}
 use Rattle.ssa_model.specs.definitions.History.{Label, applied, updated, stripped, Step, Bench}
 use Rattle.ssa_model.specs.definitions.Readings.{Readings}
 use Rattle.ssa_model.specs.definitions.BenchText.{head_json, state_json, whole_object, first_json, step_json, bench_values}
@@ -27,8 +28,8 @@ schema_is_shallow v kind apart read = let h = schema-depth most_levels at_root v
 
 -- the value of a label nests at most one level
 pub label-depth : (label : Label) → depth (label_json label) ≤ 1
-label-depth (applied who force at) = omega arith
-label-depth (updated who at) = omega arith
+label-depth (applied who force at) = elim who.part as (λ s. depth (label_json (applied (record { name = who.name; part = s }) force at)) ≤ 1) [ main ↦ omega arith | status ↦ omega arith ]
+label-depth (updated who at) = elim who.part as (λ s. depth (label_json (updated (record { name = who.name; part = s }) at)) ≤ 1) [ main ↦ omega arith | status ↦ omega arith ]
 label-depth stripped = omega arith
 
 module _ (readings : Readings) (bench : Bench) (valid : IsValidBench readings bench) where

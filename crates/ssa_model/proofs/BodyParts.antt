@@ -35,7 +35,7 @@ same-side s (e ∷ p) (f ∷ q) r u =
 
 -- ---- a part of a body
 
-abbrev in_part : Subresource → Path → Bool
+abbrev pub in_part : Subresource → Path → Bool
 in_part s p = is_root p || is_path_of s p
 
 leaf-restricted : (stays : Path → Bool) (p : Path) (o : Option Content) → is_leaf (option_map (restricted_content stays p) o) ≡ is_leaf o

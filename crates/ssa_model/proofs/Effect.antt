@@ -5,9 +5,10 @@ use Rattle.std.specs.Prelude.{Result, Ok, Err, if◌then◌else◌, codes, None,
 use Rattle.ssa_model.specs.definitions.Limits.{most_past}
 use Rattle.ssa_model.specs.definitions.Json.{Text, Json}
 use Rattle.ssa_model.specs.definitions.Body.{Body}
+use Rattle.ssa_model.specs.definitions.Parts.{Actor}
 use Rattle.ssa_model.specs.definitions.Operations.{State, Refusal}
 use Rattle.ssa_model.specs.definitions.History.{Step, Bench, present, past_len, future_len, last_state, moved_to, with_timeline, is_manager_name}
-use Rattle.ssa_model.specs.definitions.Answers.{Answer, Reply, moved, shown, owned_by, logged, refused, history_full, manager_name, nothing_to_undo, nothing_to_redo, Fault, fault, Command, apply, update, strip, undo, redo, show, owners, log, answer, accept, accept_or_refuse, with_body, apply_answer, command_body}
+use Rattle.ssa_model.specs.definitions.Answers.{Answer, Reply, moved, shown, owned_by, logged, refused, history_full, manager_name, no_subresource, has_part, nothing_to_undo, nothing_to_redo, Fault, fault, Command, apply, update, strip, undo, redo, show, owners, log, answer, accept, accept_or_refuse, with_body, apply_answer, command_body}
 use Rattle.ssa_model.specs.definitions.Effect.{is_accepted, body_in, deed_of, Deed, applying, updating, stripping, label_of, carried_out, and_then, all_carried_out, AreSteps, IsHistory, KeepsHistory, PresentIsCarriedOut, HistoriesAreCarriedOut}
 
 steps-take : (n : ℕ) (s : State) (ds : List Deed) (ts : List Step) → AreSteps s ds ts → AreSteps s (take n ds) (take n ts)
@@ -75,11 +76,12 @@ module _ (bench : Bench) (h : IsHistory bench.timeline) where
   of_body c (Ok body) go p = p body refl
   of_body c (Err f) go p = same c (fault f) refl
 
-  with_body-keeps : (c : Command) (who : Text) (v : Json) (go : Body → Answer) → ((body : Body) → command_body bench v ≡ Ok body → Keeps c (go body))
+  with_body-keeps : (c : Command) (who : Actor) (v : Json) (go : Body → Answer) → ((body : Body) → command_body bench v ≡ Ok body → Keeps c (go body))
       → Keeps c (with_body bench who v go)
   with_body-keeps c who v go p =
       one_of c (nat_le most_past (past_len bench.timeline)) _ _ (same c (fault history_full) refl)
-      (one_of c (not (is_manager_name who)) _ _ (same c (fault manager_name) refl) (of_body c (command_body bench v) go p))
+      (one_of c (not (is_manager_name who.name)) _ _ (same c (fault manager_name) refl)
+      (one_of c (not (has_part bench.schema.kind who.part)) _ _ (same c (fault no_subresource) refl) (of_body c (command_body bench v) go p)))
 
   goes : (c : Command) (word : Text) (past future n : ℕ) → n ≤ length bench.timeline.later
       → Keeps c (moved word past future, with_timeline bench (moved_to bench.timeline n))

@@ -10,6 +10,7 @@ use Rattle.ssa_model.specs.definitions.PathMap.{size}
 use Rattle.ssa_model.specs.definitions.Body.{Body, modified}
 use Rattle.ssa_model.specs.definitions.Table.{ManagerKey}
 use Rattle.ssa_model.specs.definitions.Objects.{body_value}
+use Rattle.ssa_model.specs.definitions.Parts.{part_of}
 use Rattle.ssa_model.specs.definitions.Operations.{State, clashes, conflict, too_many_paths, too_many_managers, is_none, if_seated, apply_target, apply}
 use Rattle.ssa_model.specs.definitions.Formats.{IsFile}
 use Rattle.ssa_model.specs.definitions.RecordedBench.{HasReadStep, HasReadHistory}
@@ -29,12 +30,12 @@ use Rattle.ssa_model.proofs.Basics.{first_false, second_false, le-of}
 -- ---- an apply that passes its tests leads to its target
 
 applied-is : (state : State) (a : ManagerKey) (config : Body) (at : Text)
-    → is_none (clashes a (modified state.body (apply_target state a config at).body) state.table) ≡ true
-    → nat_lt most_places (size (apply_target state a config at).body) ≡ false
-    → nat_lt most_managers (length (apply_target state a config at).table) ≡ false
-    → apply state a config false at ≡ Ok (apply_target state a config at)
+    → is_none (clashes a (modified state.body (apply_target state a (part_of a.part config) at).body) state.table) ≡ true
+    → nat_lt most_places (size (apply_target state a (part_of a.part config) at).body) ≡ false
+    → nat_lt most_managers (length (apply_target state a (part_of a.part config) at).table) ≡ false
+    → apply state a config false at ≡ Ok (apply_target state a (part_of a.part config) at)
 applied-is state a config at alone few seated =
-    let next = apply_target state a config at in
+    let next = apply_target state a (part_of a.part config) at in
     let clash = clashes a (modified state.body next.body) state.table in
     ap (λ t. if not t then Err (conflict clash) else (if nat_lt most_places (size next.body) then Err too_many_paths else if_seated next)) alone
     ∙ ap (λ t. if t then Err too_many_paths else if_seated next) few

@@ -8,11 +8,12 @@ use Rattle.ssa_model.specs.definitions.Kind.{FaultAt, faults}
 use Rattle.ssa_model.specs.definitions.Objects.{body_value}
 use Rattle.ssa_model.specs.definitions.Body.{Body, flat, modified}
 use Rattle.ssa_model.specs.definitions.PathMap.{size}
-use Rattle.ssa_model.specs.definitions.Table.{applies, ManagerKey}
+use Rattle.ssa_model.specs.definitions.Table.{applies, ManagerKey, key_of}
+use Rattle.ssa_model.specs.definitions.Parts.{Actor, part_of}
 use Rattle.ssa_model.specs.definitions.Operations as operations
 use Rattle.ssa_model.specs.definitions.Operations.{Clash, State, Refusal, clashes, conflict, too_many_paths, pruned, if_seated, is_none}
 use Rattle.ssa_model.specs.definitions.History.{Label, stripped, Bench, Timeline, past_len, future_len, present, appended, moved_to, with_timeline, is_manager_name}
-use Rattle.ssa_model.specs.definitions.Answers.{Answer, Command, Fault, apply, update, strip, undo, redo, show, owners, log, fault, moved, refused, body_fault, identity_fault, managed_fields_given, nothing_to_undo, nothing_to_redo, history_full, manager_name, answer, accept, accept_or_refuse, with_body, apply_answer, command_body, run}
+use Rattle.ssa_model.specs.definitions.Answers.{Answer, Command, Fault, apply, update, strip, undo, redo, show, owners, log, fault, moved, refused, body_fault, identity_fault, managed_fields_given, nothing_to_undo, nothing_to_redo, history_full, manager_name, no_subresource, has_part, answer, accept, accept_or_refuse, with_body, apply_answer, command_body, run}
 use Rattle.ssa_model.specs.definitions.Effect.{all_carried_out, deeds_of_run, is_accepted, Deed, AreSteps, IsHistory}
 use Rattle.ssa_model.specs.laws.Headline.{IsAlone, RunsGoOn, RunIsInEffect, RunKeepsHistory, IsRestored, UndoRestoresAll, RedoRestoresAll, RefusalsChangeNothing, IsConflictOf, ConflictsListClashes}
 use Rattle.ssa_model.proofs.Effect.{histories_are_carried_out}
@@ -64,7 +65,7 @@ run_is_in_effect bench cs alone =
 
 -- a fault of the tests before a command is carried out
 abbrev IsTested : Bench → Json → Fault → Type 0
-IsTested bench v f = (f ≡ history_full) ⊎ ((f ≡ manager_name) ⊎ (command_body bench v ≡ Err f))
+IsTested bench v f = (f ≡ history_full) ⊎ ((f ≡ manager_name) ⊎ ((f ≡ no_subresource) ⊎ (command_body bench v ≡ Err f)))
 
 module _ (bench : Bench) (P : Answer → Type 0) where
   one_of : (b : Bool) (x y : Answer) → P x → P y → P (if b then x else y)
@@ -77,11 +78,13 @@ module _ (bench : Bench) (P : Answer → Type 0) where
   of_body (Err f) go p q = p f refl
 
   -- a command of an object: refused by a test, or answered with the object's body
-  by_body : (who : Text) (v : Json) (go : Body → Answer) → ((f : Fault) → IsTested bench v f → P (fault f, bench))
+  by_body : (who : Actor) (v : Json) (go : Body → Answer) → ((f : Fault) → IsTested bench v f → P (fault f, bench))
       → ((body : Body) → command_body bench v ≡ Ok body → P (go body)) → P (with_body bench who v go)
   by_body who v go p q =
       one_of (nat_le most_past (past_len bench.timeline)) _ _ (p history_full (inl refl))
-      (one_of (not (is_manager_name who)) _ _ (p manager_name (inr (inl refl))) (of_body (command_body bench v) go (λ f e. p f (inr (inr e))) q))
+      (one_of (not (is_manager_name who.name)) _ _ (p manager_name (inr (inl refl)))
+      (one_of (not (has_part bench.schema.kind who.part)) _ _ (p no_subresource (inr (inr (inl refl))))
+      (of_body (command_body bench v) go (λ f e. p f (inr (inr (inr e)))) q)))
 
   by_result : (word : Text) (label : Label) (r : Result State Refusal) → ((s : State) → P (accept bench word label s))
       → ((f : Refusal) → r ≡ Err f → P (fault (refused f), bench)) → P (accept_or_refuse bench word label r)
@@ -261,9 +264,10 @@ no-conflict bench (scalar s) cs h = absurd cc
 tested-no_conflict : (bench : Bench) (v : Json) (cs : List Clash) (f : Fault) → IsTested bench v f → f ≡ refused (conflict cs) → ⊥
 tested-no_conflict bench v cs f (inl full) h = absurd cc
 tested-no_conflict bench v cs f (inr (inl named)) h = absurd cc
-tested-no_conflict bench v cs f (inr (inr e)) h = no-conflict bench v cs (e ∙ ap Err h)
+tested-no_conflict bench v cs f (inr (inr (inl apart))) h = absurd cc
+tested-no_conflict bench v cs f (inr (inr (inr e))) h = no-conflict bench v cs (e ∙ ap Err h)
 
-module _ (bench : Bench) (who : Text) (force : Bool) (v : Json) where
+module _ (bench : Bench) (who : Actor) (force : Bool) (v : Json) where
   abbrev Lists : Answer → Type 0
   Lists a = (cs : List Clash) → a.0 ≡ fault (refused (conflict cs)) → IsConflictOf bench who force v cs
 
@@ -283,14 +287,15 @@ module _ (bench : Bench) (who : Text) (force : Bool) (v : Json) where
 
   lists-config : (at : Text) (config : Body) → command_body bench v ≡ Ok config → Lists (apply_answer bench who force at config)
   lists-config at config is =
-      let a : ManagerKey = record { name = who; operation = applies } in
+      let a = key_of applies who in
+      let own = part_of who.part config in
       let now = present bench.timeline in
       by_result bench Lists _ _ (operations.apply now a config force at)
       (λ s cs h. cc)
       (λ f e cs h.
       let same : f ≡ conflict cs = cc in
-      let clash = clashes a (modified now.body (pruned now a config)) now.table in
-      let found = refused_by (not (force || is_none clash)) (nat_lt most_places (size (pruned now a config))) clash cs _ (e ∙ ap Err same) in
+      let clash = clashes a (modified now.body (pruned now a own)) now.table in
+      let found = refused_by (not (force || is_none clash)) (nat_lt most_places (size (pruned now a own))) clash cs _ (e ∙ ap Err same) in
       record { config = config; body = is; unforced = unforced force (is_none clash) found.0; listed = found.1 })
 
   lists : (at : Text) → Lists (answer bench (apply who force at v))

@@ -12,7 +12,8 @@ use Rattle.ssa_model.specs.definitions.Body.{Body}
 use Rattle.ssa_model.specs.definitions.FieldsV1.{fields_json}
 use Rattle.ssa_model.specs.definitions.Lawful.{is_lawful}
 use Rattle.ssa_model.specs.definitions.Objects.{Identity, is_identity, is_named_text, is_missing, value_at, shown, with_member, with_given, members_in, members_of_value, with_identity, object_of_body}
-use Rattle.ssa_model.specs.definitions.Entries.{entry_items, version_in, with_entries, with_managed_fields, object_of_state}
+use Rattle.ssa_model.specs.definitions.Entries.{entry_json, entry_items, version_in, with_entries, with_managed_fields, object_of_state}
+use Rattle.ssa_model.specs.definitions.Parts.{Subresource, main, status}
 use Rattle.ssa_model.specs.definitions.Table.{Table}
 use Rattle.ssa_model.specs.definitions.Operations.{State}
 use Rattle.ssa_model.specs.definitions.Fitting.{IsBodyOf}
@@ -114,7 +115,11 @@ AreWrittenWithin most = AllEntries (λ e. depth (fields_json e.owned) ≤ most)
 items-bound : (version : Json) (table : Table) (most : ℕ) → depth version ≤ most → AreWrittenWithin most table
     → items_depth (entry_items version table) ≤ suc most
 items-bound version [] most h all = omega arith
-items-bound version (e ∷ es) most h all = let own = all.0 in max-le (omega arith) (items-bound version es most h all.1)
+items-bound version (e ∷ es) most h all = max-le (by e.manager.part) (items-bound version es most h all.1)
+  where
+    by : (s : Subresource) → depth (entry_json version (record { manager = record { name = e.manager.name; operation = e.manager.operation; part = s }; owned = e.owned; moment = e.moment })) ≤ suc most
+    by main = let own = all.0 in omega (arith, own, h)
+    by status = let own = all.0 in omega (arith, own, h)
 
 version-bound : (o : Option Json) (most : ℕ) → 1 ≤ most → depth_in o ≤ most → depth (version_in o) ≤ most
 version-bound None most one h = one

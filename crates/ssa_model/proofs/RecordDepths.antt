@@ -9,7 +9,8 @@ use Rattle.ssa_model.specs.definitions.Path.{Path, element_text}
 use Rattle.ssa_model.specs.definitions.PathMap.{get, has, paths, below}
 use Rattle.ssa_model.specs.definitions.Kind.{Kind, atomic_of, shape_faults}
 use Rattle.ssa_model.specs.definitions.Body.{Content, leaf, atom, record_branch, dict_branch, list_branch, Body, is_leaf}
-use Rattle.ssa_model.specs.definitions.Table.{Entry, Table, is_in_table}
+use Rattle.ssa_model.specs.definitions.Parts.{Subresource, main, status}
+use Rattle.ssa_model.specs.definitions.Table.{ManagerKey, Entry, Table, is_in_table}
 use Rattle.ssa_model.specs.definitions.Operations.{State}
 use Rattle.ssa_model.specs.definitions.Objects.{content_value, shown, shown_fields}
 use Rattle.ssa_model.specs.definitions.Entries.{text_json}
@@ -62,12 +63,14 @@ module _ (most : ℕ) where
   )
 
   change-depth : (c : Change) → IsShortChange c → depth (change_json c) ≤ most + 3
-  change-depth c h = let gain = short-depth most c.gain h.0 in let lose = short-depth most c.lose h.1 in by c.moment gain lose
+  change-depth c h = let gain = short-depth most c.gain h.0 in let lose = short-depth most c.lose h.1 in by c.manager.part c.moment gain lose
     where
-      by : (o : Option Text) → depth (fields_json c.gain) ≤ suc (suc most) → depth (fields_json c.lose) ≤ suc (suc most)
-          → depth (change_json (record { manager = c.manager; gain = c.gain; lose = c.lose; moment = o })) ≤ most + 3
-      by None gain lose = omega arith
-      by (Some t) gain lose = omega arith
+      by : (s : Subresource) (o : Option Text) → depth (fields_json c.gain) ≤ suc (suc most) → depth (fields_json c.lose) ≤ suc (suc most)
+          → depth (change_json (record { manager = record { name = c.manager.name; operation = c.manager.operation; part = s }; gain = c.gain; lose = c.lose; moment = o })) ≤ most + 3
+      by main None gain lose = omega arith
+      by main (Some t) gain lose = omega arith
+      by status None gain lose = omega arith
+      by status (Some t) gain lose = omega arith
 
   changes-depth : (t u : Table) → AllEntries IsShortEntry t → AllEntries IsShortEntry u → depth (list_json change_json (changes t u)) ≤ most + 4
   changes-depth t u a b =
@@ -76,16 +79,26 @@ module _ (most : ℕ) where
       (all-changes IsShortEntry IsShortChange change-short u b t a)) in
       omega arith
 
+  key-depth : (k : ManagerKey) → depth (gone_json k) ≤ 1
+  key-depth k = elim k.part as (λ s. depth (gone_json (record { name = k.name; operation = k.operation; part = s })) ≤ 1) [ main ↦ omega arith | status ↦ omega arith ]
+
   gone-depth : (t u : Table) → depth (list_json gone_json (gone_from t u)) ≤ 2
   gone-depth t u =
-      let inside = items-within gone_json 1 (gone_from t u) (each (λ k. depth (gone_json k) ≤ 1) (λ k. omega arith) (gone_from t u)) in
+      let inside = items-within gone_json 1 (gone_from t u) (each (λ k. depth (gone_json k) ≤ 1) key-depth (gone_from t u)) in
       omega arith
+
+  entry-depth : (version : Json) (x : ℕ × Entry) → depth version ≤ most → depth (fields_json x.1.owned) ≤ suc (suc most) → depth (here_json version x) ≤ most + 4
+  entry-depth version x low own = by x.1.manager.part
+    where
+      by : (s : Subresource) → depth (here_json version (x.0, record { manager = record { name = x.1.manager.name; operation = x.1.manager.operation; part = s }; owned = x.1.owned; moment = x.1.moment })) ≤ most + 4
+      by main = omega (arith, low, own)
+      by status = omega (arith, low, own)
 
   here-depth : (version : Json) (t u : Table) → depth version ≤ most → AllEntries IsShortEntry u → depth (list_json (here_json version) (new_in t u)) ≤ most + 5
   here-depth version t u low b =
       let inside = items-within (here_json version) (most + 4) (new_in t u)
       (each-follows (λ (x : ℕ × Entry). IsShortEntry x.1) (λ x. depth (here_json version x) ≤ most + 4)
-      (λ x h. let own = short-depth most x.1.owned h in omega arith) (new_in t u) (all-placed IsShortEntry (λ e. not (is_in_table t e.manager)) 0 u b)) in
+      (λ x h. entry-depth version x low (short-depth most x.1.owned h)) (new_in t u) (all-placed IsShortEntry (λ e. not (is_in_table t e.manager)) 0 u b)) in
       omega arith
 
 -- ---- the record of bodies

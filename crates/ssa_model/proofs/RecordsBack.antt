@@ -4,24 +4,26 @@ use Rattle.std.proofs.lemmas.Option.{same_Some, none-some}
 use Rattle.std.specs.Prelude.{if◌then◌else◌, is_ok, Result, Ok, Err, codes}
 use Rattle.std.specs.List.{AllByRecursion}
 use Rattle.std.specs.Cmp.{first_so, second_so}
-use Rattle.ssa_model.specs.definitions.Json.{Text, same_text, Json, list, item, as_text, member_of}
+use Rattle.ssa_model.specs.definitions.Json.{Text, same_text, Json, list, item, Members, no_members, member, no_items, as_text, member_of}
 use Rattle.ssa_model.specs.definitions.Path.{Element, Path, element_text, same_element, is_item_element}
 use Rattle.ssa_model.specs.definitions.PathMap.{PathMap, PathSet, from_entries, get, has, paths, listed, below}
 use Rattle.ssa_model.specs.definitions.Kind.{Kind, scalar_kind, atomic_of}
-use Rattle.ssa_model.specs.definitions.Schema.{texts_of}
+use Rattle.ssa_model.specs.definitions.Schema.{texts_of, is_text}
 use Rattle.ssa_model.specs.definitions.Body.{Content, leaf, atom, record_branch, dict_branch, list_branch, Body, order_at, is_leaf}
+use Rattle.ssa_model.specs.definitions.Parts.{Subresource, main, status}
+use Rattle.ssa_model.specs.definitions.Commands.{text_in, is_subresource, subresource_in}
 use Rattle.ssa_model.specs.definitions.Table.{Operation, applies, updates, ManagerKey, Entry, Table, is_in_table}
 use Rattle.ssa_model.specs.definitions.Operations.{State}
 use Rattle.ssa_model.specs.definitions.Objects.{content_value}
 use Rattle.ssa_model.specs.definitions.Readings.{Readings}
 use Rattle.ssa_model.specs.definitions.ElementTexts.{ElementFault, element_of, next_element, path_of}
 use Rattle.ssa_model.specs.definitions.FieldsV1.{fields_json}
-use Rattle.ssa_model.specs.definitions.Entries.{operation_text, text_json, entry_json}
+use Rattle.ssa_model.specs.definitions.Entries.{operation_text, text_json, part_members, entry_json}
 use Rattle.ssa_model.specs.definitions.Replies.{items_json, path_json}
 use Rattle.ssa_model.specs.definitions.Fitting.{Place, of_kind, value_of, place_at, content_fits, IsBodyOf}
 use Rattle.ssa_model.specs.definitions.Valid.{AllEntries, OwnsOwnable, IsValidState}
 use Rattle.ssa_model.specs.definitions.Record.{Change, Part, is_top, part_at, new_leaf, is_reordered, new_order, change_to, cuts, puts, new_leaves, new_orders, changes, gone_from, new_in, record_of}
-use Rattle.ssa_model.specs.definitions.RecordText.{place_items, time_members, part_value, put_json, change_json, gone_json, here_json, leaf_json, order_json, record_json}
+use Rattle.ssa_model.specs.definitions.RecordText.{place_items, part_items, time_members, part_value, put_json, change_json, gone_json, here_json, leaf_json, order_json, record_json}
 use Rattle.ssa_model.specs.definitions.RecordReading.{Test, all_items, are_members_of, has_members, is_anything, is_operation, is_key, has_items, items_in, item_at, key_in, content_in, part_in, place_given, is_read_path, is_path, is_fields, change_shape, entry_shape, here_shape, is_put, path_in, change_in, here_in, order_in, leaf_in, put_in, IsReadPath, HasReadSet, HasReadPaths, is_record_shape, record_in, IsReadState}
 use Rattle.ssa_model.specs.laws.RecordReading.{RecordTextsHaveShape, RecordTextsAreRead}
 use Rattle.ssa_model.proofs.BodyLeads.{get-cuts}
@@ -35,6 +37,7 @@ use Rattle.ssa_model.proofs.ShownItems.{each-among}
 use Rattle.ssa_model.proofs.Tables.{ownable-has, element-itself}
 use Rattle.ssa_model.proofs.TablesBack.{operation-back}
 use Rattle.ssa_model.proofs.Tests.{by_test}
+use Rattle.ssa_model.proofs.Basics.{or_true}
 use Rattle.ssa_model.proofs.WritingsBack.{set-faultless, set-said}
 
 -- ---- lists
@@ -83,10 +86,19 @@ operation-told applies = refl
 operation-told updates = refl
 
 key-back : (k : ManagerKey) → key_in (gone_json k) ≡ k
-key-back k = λ i. record { name = k.name; operation = operation-back k.operation i }
+key-back k = λ i. record { name = k.name; operation = operation-back k.operation i; part = part-given k.part i }
+  where
+    part-given : (s : Subresource) → subresource_in (item_at 2 (list (item (text_json k.name) (item (text_json (operation_text k.operation)) (part_items s))))) ≡ s
+    part-given main = refl
+    part-given status = refl
 
 key-shaped : (k : ManagerKey) → is_key (gone_json k) ≡ true
-key-shaped k = λ i. operation-told k.operation i && true
+key-shaped k = by k.part
+  where
+    by : (s : Subresource) → is_key (list (item (text_json k.name) (item (text_json (operation_text k.operation)) (part_items s)))) ≡ true
+    by main = λ i. (operation-told k.operation i && true) || has_items (is_text ∷ is_operation ∷ is_subresource ∷ []) (list (item (text_json k.name) (item (text_json (operation_text k.operation)) no_items)))
+    by status = or_true (has_items (is_text ∷ is_operation ∷ []) (list (item (text_json k.name) (item (text_json (operation_text k.operation)) (part_items status))))) _
+        (λ i. operation-told k.operation i && true)
 
 time-back : (o : Option Text) → option_and_then as_text (member_of (codes "time") (time_members o)) ≡ o
 time-back None = refl
@@ -154,24 +166,38 @@ module _ (readings : Readings) where
     moment = elim (same_text e.moment f.moment) as (λ s. is_given_moment (if s then None else Some f.moment) ≡ true) [ true ↦ refl | false ↦ b.1 ];
   }
 
+  part-told : (s : Subresource) (o : Option Text) → subresource_in (member_of (codes "subresource") (part_members s (time_members o))) ≡ s
+  part-told main None = refl
+  part-told main (Some t) = refl
+  part-told status o = refl
+
+  moment-told : (s : Subresource) (o : Option Text) → option_and_then as_text (member_of (codes "time") (part_members s (time_members o))) ≡ o
+  moment-told main o = time-back o
+  moment-told status o = time-back o
+
   change-back : (c : Change) → IsReadChange c → change_in readings (change_json c) ≡ c
   change-back c h =
       λ i. record {
-        manager = record { name = c.manager.name; operation = operation-back c.manager.operation i };
+        manager = record { name = c.manager.name; operation = operation-back c.manager.operation i; part = part-told c.manager.part c.moment i };
         gain = set-said readings c.gain h.gain i;
         lose = set-said readings c.lose h.lose i;
-        moment = time-back c.moment i;
+        moment = moment-told c.manager.part c.moment i;
       }
 
   time-shaped : (o : Option Text) → is_given_moment o ≡ true → are_members_of (change_shape readings) (time_members o) ≡ true
   time-shaped None h = refl
   time-shaped (Some t) h = λ i. (h i || false) && true
 
+  part-shaped : (s : Subresource) (o : Option Text) → is_given_moment o ≡ true
+      → are_members_of (change_shape readings) (part_members s (time_members o)) ≡ true
+  part-shaped main o h = time-shaped o h
+  part-shaped status o h = time-shaped o h
+
   change-shaped : (c : Change) → IsReadChange c → has_members (change_shape readings) (change_json c) ≡ true
   change-shaped c h =
       let gain = fields-shaped c.gain h.gain in
       let lose = fields-shaped c.lose h.lose in
-      let time = time-shaped c.moment h.moment in
+      let time = part-shaped c.manager.part c.moment h.moment in
       λ i. ((gain i || false) && ((lose i || false) && ((operation-told c.manager.operation i || false) && time i))) && true
 
   here-back : (version : Text) (x : ℕ × Entry) → IsReadEntry x.1 → here_in readings (here_json (text_json version) x) ≡ x
@@ -179,19 +205,36 @@ module _ (readings : Readings) where
       λ i. (
         x.0,
         record {
-          manager = record { name = x.1.manager.name; operation = operation-back x.1.manager.operation i };
+          manager = record { name = x.1.manager.name; operation = operation-back x.1.manager.operation i; part = part-of x.1.manager.part i };
           owned = set-said readings x.1.owned h.0 i;
-          moment = x.1.moment;
+          moment = moment-of x.1.manager.part i;
         },
       )
+    where
+      rest : Members
+      rest = member (codes "time") (text_json x.1.moment) no_members
+
+      part-of : (s : Subresource) → subresource_in (member_of (codes "subresource") (part_members s rest)) ≡ s
+      part-of main = refl
+      part-of status = refl
+
+      moment-of : (s : Subresource) → text_in (member_of (codes "time") (part_members s rest)) ≡ x.1.moment
+      moment-of main = refl
+      moment-of status = refl
 
   here-shaped : (version : Text) (x : ℕ × Entry) → IsReadEntry x.1 → has_members (here_shape readings) (here_json (text_json version) x) ≡ true
   here-shaped version x h =
       let owned = fields-shaped x.1.owned h.0 in
       let operation = operation-told x.1.manager.operation in
-      let inside : has_members (entry_shape readings) (entry_json (text_json version) x.1) ≡ true =
-      λ i. ((owned i || false) && ((operation i || false) && ((h.1 i || false) && true))) && true in
-      λ i. ((inside i || false) && true) && true
+      let inside : (s : Subresource) → has_members (entry_shape readings) (entry_json (text_json version) (with_part s)) ≡ true =
+      λ s. elim s as (λ s. has_members (entry_shape readings) (entry_json (text_json version) (with_part s)) ≡ true) [
+        | main ↦ λ i. ((owned i || false) && ((operation i || false) && ((h.1 i || false) && true))) && true
+        | status ↦ λ i. ((owned i || false) && ((operation i || false) && ((h.1 i || false) && true))) && true
+      ] in
+      λ i. ((inside x.1.manager.part i || false) && true) && true
+    where
+      with_part : Subresource → Entry
+      with_part s = record { manager = record { name = x.1.manager.name; operation = x.1.manager.operation; part = s }; owned = x.1.owned; moment = x.1.moment }
 
   -- ---- the members of bodies
 

@@ -4,15 +4,17 @@ use Rattle.std.proofs.lemmas.Bool.Decides.{nat_tests}
 use Rattle.std.specs.Prelude.{if◌then◌else◌, codes, nat_le, Ok, Err}
 use Rattle.std.specs.Cmp.{first_so, second_so}
 use Rattle.ssa_model.specs.definitions.Limits.{most_managers}
-use Rattle.ssa_model.specs.definitions.Json.{Text, Json, Members, no_members, member, same_text}
+use Rattle.ssa_model.specs.definitions.Json.{Text, Json, Members, no_members, member, member_of, same_text}
 use Rattle.ssa_model.specs.definitions.Path.{Path}
 use Rattle.ssa_model.specs.definitions.PathMap.{paths, is_empty}
 use Rattle.ssa_model.specs.definitions.Body.{Body, is_ownable}
+use Rattle.ssa_model.specs.definitions.Parts.{Subresource, main, status}
+use Rattle.ssa_model.specs.definitions.Commands.{subresource_in}
 use Rattle.ssa_model.specs.definitions.Table.{Operation, applies, updates, ManagerKey, Entry, Table, same_manager, is_in_table}
 use Rattle.ssa_model.specs.definitions.Readings.{Readings}
 use Rattle.ssa_model.specs.definitions.FieldsV1.{fields_json, fields_faults}
-use Rattle.ssa_model.specs.definitions.Entries.{operation_text, text_json, entry_json, entry_items}
-use Rattle.ssa_model.specs.definitions.GivenEntries.{EntryFault, too_many_managers, bad_entry, manager_name, other_version, bad_moment, of_fields, empty_entry, absent_path, duplicate_manager, is_entry, operation_of, not_ownable, owned_fault, said_entry, entry_fault, members_entry, next_entry, table_behind}
+use Rattle.ssa_model.specs.definitions.Entries.{operation_text, text_json, part_members, entry_json, entry_items}
+use Rattle.ssa_model.specs.definitions.GivenEntries.{text_at, EntryFault, too_many_managers, bad_entry, manager_name, other_version, bad_moment, of_fields, empty_entry, absent_path, duplicate_manager, is_entry, operation_of, not_ownable, owned_fault, said_entry, entry_fault, members_entry, next_entry, table_behind}
 use Rattle.ssa_model.specs.definitions.History.{is_manager_name}
 use Rattle.ssa_model.specs.definitions.BenchFile.{IsReadBack}
 use Rattle.ssa_model.specs.definitions.Valid.{has_distinct_keys, OwnsOwnable, AllEntries, IsTable}
@@ -22,15 +24,28 @@ use Rattle.ssa_model.proofs.Basics.{or_true, not_true as no, first_false, second
 
 -- ---- the members of an entry
 
-abbrev entry_of : Text → Json → Text → Operation → Text → Members
-entry_of version fields name o time =
+abbrev entry_of : Text → Json → Text → Operation → Subresource → Text → Members
+entry_of version fields name o s time =
     member (codes "apiVersion") (text_json version) (member (codes "fieldsType") (text_json (codes "FieldsV1")) (member (codes "fieldsV1") fields
     (member (codes "manager") (text_json name) (member (codes "operation") (text_json (operation_text o))
-    (member (codes "time") (text_json time) no_members)))))
+    (part_members s (member (codes "time") (text_json time) no_members))))))
 
-entry-is : (version : Text) (fields : Json) (name : Text) (o : Operation) (time : Text) → is_entry (entry_of version fields name o time) ≡ true
-entry-is version fields name applies time = refl
-entry-is version fields name updates time = refl
+entry-is : (version : Text) (fields : Json) (name : Text) (o : Operation) (s : Subresource) (time : Text) → is_entry (entry_of version fields name o s time) ≡ true
+entry-is version fields name applies main time = refl
+entry-is version fields name applies status time = refl
+entry-is version fields name updates main time = refl
+entry-is version fields name updates status time = refl
+
+-- what is read of an entry's members besides its operation
+part-back : (version : Text) (fields : Json) (name : Text) (o : Operation) (s : Subresource) (time : Text)
+    → subresource_in (member_of (codes "subresource") (entry_of version fields name o s time)) ≡ s
+part-back version fields name o main time = refl
+part-back version fields name o status time = refl
+
+time-back : (version : Text) (fields : Json) (name : Text) (o : Operation) (s : Subresource) (time : Text)
+    → text_at (codes "time") (entry_of version fields name o s time) ≡ time
+time-back version fields name o main time = refl
+time-back version fields name o status time = refl
 
 -- an operation is read back from its text
 pub operation-back : (o : Operation) → elim (operation_of (operation_text o)) [ Some q ↦ q | None ↦ applies ] ≡ o
@@ -59,13 +74,20 @@ module _ (readings : Readings) (body : Body) (version : Text) where
     pub back : IsReadBack readings e
 
   abbrev entry_members : Entry → Members
-  entry_members e = entry_of version (fields_json e.owned) e.manager.name e.manager.operation e.moment
+  entry_members e = entry_of version (fields_json e.owned) e.manager.name e.manager.operation e.manager.part e.moment
+
+  abbrev told_time : Entry → Text
+  told_time e = text_at (codes "time") (entry_members e)
 
   said-is : (e : Entry) → IsGood e → said_entry readings (entry_members e) ≡ e
   said-is e g = λ i. record {
-    manager = record { name = e.manager.name; operation = operation-back e.manager.operation i };
+    manager = record {
+      name = e.manager.name;
+      operation = operation-back e.manager.operation i;
+      part = part-back version (fields_json e.owned) e.manager.name e.manager.operation e.manager.part e.moment i;
+    };
     owned = g.back.says i;
-    moment = e.moment;
+    moment = time-back version (fields_json e.owned) e.manager.name e.manager.operation e.manager.part e.moment i;
   }
 
   no-owned-fault : (before : Table) (e : Entry) → IsGood e → is_in_table before e.manager ≡ false → owned_fault body before e ≡ None
@@ -84,9 +106,10 @@ module _ (readings : Readings) (body : Body) (version : Text) where
   no-fault : (before : Table) (e : Entry) → IsGood e → is_in_table before e.manager ≡ false → entry_fault readings body version before (entry_members e) ≡ None
   no-fault before e g new =
       ap (λ t. if not t then Some manager_name else (if not (same_text version version) then Some
-      other_version else (if not (readings.moment e.moment) then Some bad_moment else by_fields before e))) g.name
-      ∙ ap (λ t. if not t then Some other_version else (if not (readings.moment e.moment) then Some bad_moment else by_fields before e)) (text-itself version)
-      ∙ ap (λ t. if not t then Some bad_moment else by_fields before e) g.back.moment
+      other_version else (if not (readings.moment (told_time e)) then Some bad_moment else by_fields before e))) g.name
+      ∙ ap (λ t. if not t then Some other_version else (if not (readings.moment (told_time e)) then Some bad_moment else by_fields before e)) (text-itself version)
+      ∙ ap (λ t. if not t then Some bad_moment else by_fields before e)
+      (ap readings.moment (time-back version (fields_json e.owned) e.manager.name e.manager.operation e.manager.part e.moment) ∙ g.back.moment)
       ∙ ap (λ fs. elim fs [ f ∷ rest ↦ Some (of_fields f) | [] ↦ owned_fault body before (said_entry readings (entry_members e)) ]) g.back.no_fault
       ∙ ap (owned_fault body before) (said-is e g) ∙ no-owned-fault before e g new
 
@@ -99,7 +122,7 @@ module _ (readings : Readings) (body : Body) (version : Text) where
       ap (λ t. if t then Err too_many_managers else members_entry readings body version before (entry_members e)) (few (length before) short)
       ∙ ap (λ t. if not t then Err bad_entry else (elim (entry_fault readings body version before (entry_members e))
       [ Some f ↦ Err f | None ↦ Ok (said_entry readings (entry_members e)) ]))
-      (entry-is version (fields_json e.owned) e.manager.name e.manager.operation e.moment)
+      (entry-is version (fields_json e.owned) e.manager.name e.manager.operation e.manager.part e.moment)
       ∙ ap (λ o. elim o [ Some f ↦ Err f | None ↦ Ok (said_entry readings (entry_members e)) ]) (no-fault before e g new)
       ∙ ap Ok (said-is e g)
 

@@ -13,6 +13,7 @@ use Rattle.ssa_model.specs.definitions.Schema.{Schema, SchemaFault, read_schema}
 use Rattle.ssa_model.specs.definitions.Kind.{Kind}
 use Rattle.ssa_model.specs.definitions.Lawful.{IsSchemaKind}
 use Rattle.ssa_model.specs.definitions.Objects.{is_identity}
+use Rattle.ssa_model.specs.definitions.Parts.{Subresource, main, status}
 use Rattle.ssa_model.specs.definitions.Operations.{State}
 use Rattle.ssa_model.specs.definitions.Replies.{label_json}
 use Rattle.ssa_model.specs.definitions.Table.{Table, same_manager}
@@ -59,20 +60,28 @@ lone-by v r lone is same =
 
 -- the test of labels is right
 pub is_label-by : (readings : Readings) (label : Label) → is_label readings label ≡ true → IsLabel readings label
-is_label-by readings (applied who force at) h = and_parts (is_manager_name who) (readings.moment at) h
-is_label-by readings (updated who at) h = and_parts (is_manager_name who) (readings.moment at) h
+is_label-by readings (applied who force at) h = and_parts (is_manager_name who.name) (readings.moment at) h
+is_label-by readings (updated who at) h = and_parts (is_manager_name who.name) (readings.moment at) h
 is_label-by readings stripped h = tt
 
 -- a label passes the test of labels
 pub is_label-of : (readings : Readings) (label : Label) → IsLabel readings label → is_label readings label ≡ true
-is_label-of readings (applied who force at) h = and_from (is_manager_name who) (readings.moment at) h.0 h.1
-is_label-of readings (updated who at) h = and_from (is_manager_name who) (readings.moment at) h.0 h.1
+is_label-of readings (applied who force at) h = and_from (is_manager_name who.name) (readings.moment at) h.0 h.1
+is_label-of readings (updated who at) h = and_from (is_manager_name who.name) (readings.moment at) h.0 h.1
 is_label-of readings stripped h = refl
 
 -- the value that is written of a label says it
 pub said-back : (label : Label) → said_label (label_json label) ≡ label
-said-back (applied who force at) = refl
-said-back (updated who at) = refl
+said-back (applied who force at) = by who.part
+  where
+    by : (s : Subresource) → said_label (label_json (applied (record { name = who.name; part = s }) force at)) ≡ applied (record { name = who.name; part = s }) force at
+    by main = refl
+    by status = refl
+said-back (updated who at) = by who.part
+  where
+    by : (s : Subresource) → said_label (label_json (updated (record { name = who.name; part = s }) at)) ≡ updated (record { name = who.name; part = s }) at
+    by main = refl
+    by status = refl
 said-back stripped = refl
 
 -- and from this value the label is taken

@@ -10,11 +10,12 @@ use Rattle.ssa_model.specs.definitions.Json.{Text, Json}
 use Rattle.ssa_model.specs.definitions.PathMap.{PathSet, union, minus}
 use Rattle.ssa_model.specs.definitions.Kind.{Kind}
 use Rattle.ssa_model.specs.definitions.Body.{Body, points, added, modified, removed}
-use Rattle.ssa_model.specs.definitions.Table.{owned_by, Table, ManagerKey, applies, updates}
+use Rattle.ssa_model.specs.definitions.Table.{owned_by, Table, ManagerKey, key_of, applies, updates}
+use Rattle.ssa_model.specs.definitions.Parts.{Actor, part_of, spliced}
 use Rattle.ssa_model.specs.definitions.Operations as operations
 use Rattle.ssa_model.specs.definitions.Operations.{State, Refusal}
 use Rattle.ssa_model.specs.definitions.History.{future_len, Label, applied, updated, stripped, Step, Bench, last_state, present, past_len, appended, with_timeline, is_manager_name}
-use Rattle.ssa_model.specs.definitions.Answers.{lone_state, Answer, Command, apply, update, strip, undo, redo, show, owners, log, Changed, changed, Fault, fault, refused, history_full, manager_name, command_body, accept, accept_or_refuse, apply_answer, with_body, answer}
+use Rattle.ssa_model.specs.definitions.Answers.{lone_state, Answer, Command, apply, update, strip, undo, redo, show, owners, log, Changed, changed, Fault, fault, refused, history_full, manager_name, no_subresource, has_part, command_body, accept, accept_or_refuse, apply_answer, with_body, answer}
 use Rattle.ssa_model.specs.definitions.Valid.{IsValidHistory, IsValidState, has_distinct_keys, KeepsOrder, KeepsOrders, MakesNamed, IsNextStep}
 use Rattle.ssa_model.specs.laws.KeepsValid.{AcceptedGoesOn, NextKeepsHistory}
 use Rattle.ssa_model.proofs.Accepted.{applied_is, updated_is}
@@ -102,26 +103,29 @@ module _ (bench : Bench) (distinct : has_distinct_keys (present bench.timeline).
   of_body (Ok body) go p = p body
   of_body (Err f) go p = refusal f
 
-  tested : (who : Text) (v : Json) (go : Body → Answer) → (past_len bench.timeline < most_past → is_manager_name who ≡ true → (body : Body)
+  tested : (who : Actor) (v : Json) (go : Body → Answer) → (past_len bench.timeline < most_past → is_manager_name who.name ≡ true → (body : Body)
       → GoesOn (go body)) → GoesOn (with_body bench who v go)
   tested who v go p =
       unless (nat_le most_past (past_len bench.timeline)) _ _ (refusal history_full)
-      (λ few. unless (not (is_manager_name who)) _ _ (refusal manager_name) (λ named. of_body (command_body bench v) go (p (few-of _ few) (named-of _ named))))
+      (λ few. unless (not (is_manager_name who.name)) _ _ (refusal manager_name)
+      (λ named. unless (not (has_part bench.schema.kind who.part)) _ _ (refusal no_subresource)
+      (λ _. of_body (command_body bench v) go (p (few-of _ few) (named-of _ named)))))
 
   made : (word : Text) (label : Label) (r : Result State Refusal) → ((s : State) → r ≡ Ok s → IsNextStep bench.timeline label s)
       → GoesOn (accept_or_refuse bench word label r)
   made word label (Ok s) p = accepted word label s (p s refl)
   made word label (Err f) p = refusal (refused f)
 
-  applying : (who : Text) (force : Bool) (at : Text) → past_len bench.timeline < most_past → is_manager_name who ≡ true → (config : Body)
+  applying : (who : Actor) (force : Bool) (at : Text) → past_len bench.timeline < most_past → is_manager_name who.name ≡ true → (config : Body)
       → GoesOn (apply_answer bench who force at config)
   applying who force at few named config =
-      let a : ManagerKey = record { name = who; operation = applies } in
+      let a = key_of applies who in
+      let own = part_of who.part config in
       made (codes "apply") (applied who force at) (operations.apply now a config force at)
       (λ s ok. record {
         order = subst (λ (x : State). KeepsOrder now.table x.table) (applied_is now s a config force at ok).0
-            (operations_keep_order now.table a (points config) (modified now.body (operations.pruned now a config))
-            (modified now.body (operations.pruned now a config)) at distinct);
+            (operations_keep_order now.table a (union (points own) (operations.owned_outside now.table a)) (modified now.body (operations.pruned now a own))
+            (modified now.body (operations.pruned now a own)) at distinct);
         named = named;
         few = few;
       })
@@ -129,15 +133,16 @@ module _ (bench : Bench) (distinct : has_distinct_keys (present bench.timeline).
   abbrev owned_after : ManagerKey → Body → PathSet
   owned_after u object = union (minus (owned_by now.table u) (removed now.body object)) (union (modified now.body object) (added now.body object))
 
-  updating : (who at : Text) → past_len bench.timeline < most_past → is_manager_name who ≡ true → (object : Body)
-      → GoesOn (accept_or_refuse bench (codes "update") (updated who at) (operations.update now (record { name = who; operation = updates }) object at))
+  updating : (who : Actor) (at : Text) → past_len bench.timeline < most_past → is_manager_name who.name ≡ true → (object : Body)
+      → GoesOn (accept_or_refuse bench (codes "update") (updated who at) (operations.update now (key_of updates who) object at))
   updating who at few named object =
-      let u : ManagerKey = record { name = who; operation = updates } in
+      let u = key_of updates who in
+      let whole = spliced who.part object now.body in
       made (codes "update") (updated who at) (operations.update now u object at)
       (λ s ok. record {
         order = subst (λ (x : State). KeepsOrder now.table x.table) (updated_is now s u object at ok).0
-            (operations_keep_order now.table u (owned_after u object) (union (modified now.body object) (removed now.body object))
-            (modified now.body object) at distinct);
+            (operations_keep_order now.table u (owned_after u whole) (union (modified now.body whole) (removed now.body whole))
+            (modified now.body whole) at distinct);
         named = named;
         few = few;
       })

@@ -9,6 +9,7 @@ use Rattle.ssa_model.specs.definitions.PathMap.{PathSet, get, has, paths, union,
 use Rattle.ssa_model.specs.definitions.Kind as kinds
 use Rattle.ssa_model.specs.definitions.Kind.{Kind, scalar_kind, atomic_of, record_of, dict_of, items_of}
 use Rattle.ssa_model.specs.definitions.Body.{Content, leaf, atom, record_branch, dict_branch, list_branch, Body, is_leaf, is_dict, is_bare, is_point, points, over, over_content, restricted_content, strictly_under}
+use Rattle.ssa_model.specs.definitions.Parts.{part_of, spliced}
 use Rattle.ssa_model.specs.definitions.Table.{ManagerKey, Table, same_manager, owned_by_others}
 use Rattle.ssa_model.specs.definitions.Operations.{State, kept, pruned, dropped}
 use Rattle.ssa_model.specs.definitions.Fitting.{Place, of_kind, item_of, value_of, content_fits, IsBodyOf}
@@ -16,7 +17,9 @@ use Rattle.ssa_model.specs.definitions.Valid.{OwnedOwnable, OwnsOwnable, AllEntr
 use Rattle.ssa_model.specs.laws.KeepsValid.{ApplyKeepsValid, UpdateKeepsValid, StripKeepsValid}
 use Rattle.ssa_model.proofs.Accepted.{applied_is, updated_is}
 use Rattle.ssa_model.proofs.PathMaps.{get-over, get-restricted, has-set_of, has-union, has-points, has-paths, is_one_of}
-use Rattle.ssa_model.proofs.Tables.{apart_by, true_or, either, ownable-has, leaf-point, leaf-has, has-over, has-restricted, kept-stays, spared, apply_keeps, update_keeps, strip_keeps}
+use Rattle.ssa_model.proofs.Tables.{apart_by, true_or, either, ownable-has, leaf-point, leaf-has, has-over, has-restricted, kept-stays, spared, strip_keeps}
+use Rattle.ssa_model.proofs.Outside.{apply_keeps, update_keeps}
+use Rattle.ssa_model.proofs.BodyParts.{rooted-part, rooted-spliced, part-is-body, spliced-is-body}
 use Rattle.ssa_model.proofs.Fitting.{some_place, some_there, same_element-true, over_fits}
 use Rattle.ssa_model.proofs.Pruned.{some_one, from_one, pruned_fits}
 use Rattle.ssa_model.proofs.Basics.{or_true, first_false, second_false, yes_no}
@@ -222,23 +225,27 @@ module _ (kind : Kind) (state : State) (a : ManagerKey) (config : Body) (valid :
 -- an accepted Apply of a rooted configuration leads from a valid state to a valid one
 pub apply_keeps_valid : ApplyKeepsValid
 apply_keeps_valid kind state next a config force at valid fits rooted name ok =
+    let own = part_of a.part config in
+    let own_fits = part-is-body kind a.part config fits in
+    let own_rooted = rooted-part a.part config rooted in
     let made = applied_is state next a config force at ok in
-    let is : pruned state a config ≡ next.body = ap (λ s. s.body) made.0 in
+    let is : pruned state a own ≡ next.body = ap (λ s. s.body) made.0 in
     record {
-      fits = subst (IsBodyOf kind) is (after_fits kind state a config valid fits rooted);
-      rooted = subst IsRooted is (after_rooted kind state a config valid fits rooted);
+      fits = subst (IsBodyOf kind) is (after_fits kind state a own valid own_fits own_rooted);
+      rooted = subst IsRooted is (after_rooted kind state a own valid own_fits own_rooted);
       few = subst (λ b. size b ≤ most_places) is made.2;
       table = apply_keeps state next a config force at valid.table valid.rooted rooted name ok;
     }
 
--- an accepted Update of a rooted object leads from a valid state to a valid one
+-- an accepted Update to a rooted object leads from a valid state to a valid one
 pub update_keeps_valid : UpdateKeepsValid
-update_keeps_valid kind state next u object at valid fits rooted few name ok =
-    let is : object ≡ next.body = ap (λ s. s.body) (updated_is state next u object at ok).0 in
+update_keeps_valid kind state next u object at valid fits rooted name ok =
+    let made = updated_is state next u object at ok in
+    let is : spliced u.part object state.body ≡ next.body = ap (λ s. s.body) made.0 in
     record {
-      fits = subst (IsBodyOf kind) is fits;
-      rooted = subst IsRooted is rooted;
-      few = subst (λ b. size b ≤ most_places) is few;
+      fits = subst (IsBodyOf kind) is (spliced-is-body kind u.part object state.body fits valid.fits);
+      rooted = subst IsRooted is (rooted-spliced u.part object state.body rooted valid.rooted);
+      few = subst (λ b. size b ≤ most_places) is made.2;
       table = update_keeps state next u object at valid.table valid.rooted rooted name ok;
     }
 

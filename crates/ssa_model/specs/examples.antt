@@ -27,3 +27,5 @@ pub mod FormatRows
 -- records that fit a state, and some that don't
 pub mod FittingRows
 pub mod PlaceRows
+-- the parts of an object
+pub mod PartRows

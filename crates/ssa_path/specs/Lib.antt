@@ -18,3 +18,4 @@ pub mod FaultCodes
 pub mod TopPaths
 pub mod SortKeys
 pub mod Subresources
+pub mod PartMembers

@@ -14,6 +14,11 @@ abbrev pub part_view : Part → Subresource
 part_view Main = main
 part_view Status = status
 
+-- the name of a subresource
+abbrev pub subresource_text : Subresource → Option Text
+subresource_text main = None
+subresource_text status = Some (codes "status")
+
 abbrev pub other_part : Subresource → Subresource
 other_part main = status
 other_part status = main

@@ -38,6 +38,7 @@ pub mod listing;
 mod nested_text;
 pub mod order;
 pub mod part;
+pub mod part_members;
 pub mod parting;
 pub mod path;
 pub mod path_text;

@@ -45,6 +45,16 @@ impl Part {
         }
     }
 
+    /// The name of the subresource through which the part is reached, where it is one.
+    pub fn subresource(self) -> Option<&'static str>
+        ensures { option_copied result ≡ subresource_text (part_view self) }
+    {
+        match self {
+            Part::Main => None,
+            Part::Status => Some("status"),
+        }
+    }
+
     /// The part that this one is not.
     pub fn other(self) -> Part
         ensures { part_view result ≡ other_part (part_view self) }

@@ -234,6 +234,10 @@ fn refusal_lines(
             alloc,
         );
     }
+    if matches!(fault, Fault::NoSubresource) {
+        return b"ssabench: the schema has no field status, so the object has no such subresource\n"
+            .to_vec(alloc);
+    }
     let Ok(object) = Json::read(alloc, object, MOST_INPUT_BYTES) else {
         return Ok(Vec::new(alloc));
     };

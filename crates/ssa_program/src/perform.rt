@@ -19,6 +19,7 @@ use ssa_bench::bench::Bench;
 use ssa_json::sink::Sink;
 use ssa_json::source::Source;
 use ssa_lines::write_line::write_reply;
+use ssa_path::part::Part;
 use ssa_schema::schema::Schema;
 use ssa_session::bench_session::session;
 use ssa_session::files::{bench_of, schema_of};
@@ -67,6 +68,7 @@ fn carry_out<'a, T: Files + AllocGlobal, R: Source, W: Sink>(
             file,
             at,
             manager,
+            status,
             force,
         } => {
             change_bench(
@@ -75,7 +77,12 @@ fn carry_out<'a, T: Files + AllocGlobal, R: Source, W: Sink>(
                 notes,
                 bench,
                 file,
-                Change::Apply { manager, force, at },
+                Change::Apply {
+                    manager,
+                    part: part_for(status),
+                    force,
+                    at,
+                },
             )
         }
         Call::Update {
@@ -83,6 +90,7 @@ fn carry_out<'a, T: Files + AllocGlobal, R: Source, W: Sink>(
             file,
             at,
             manager,
+            status,
         } => {
             change_bench(
                 rt,
@@ -90,7 +98,11 @@ fn carry_out<'a, T: Files + AllocGlobal, R: Source, W: Sink>(
                 notes,
                 bench,
                 file,
-                Change::Update { manager, at },
+                Change::Update {
+                    manager,
+                    part: part_for(status),
+                    at,
+                },
             )
         }
         Call::Strip { bench } => move_bench(rt, writer, notes, bench, Asked::Strip),
@@ -179,16 +191,23 @@ fn save_new<'a, T: Files + AllocGlobal, W: Sink>(
     }
 }
 
+// The part of the object that a command is for.
+fn part_for(status: bool) -> Part {
+    if status { Part::Status } else { Part::Main }
+}
+
 // A command that a file gives the object of.
 #[derive(Clone, Copy, Drop)]
 enum Change<'a> {
     Apply {
         manager: &'a str,
+        part: Part,
         force: bool,
         at: &'a str,
     },
     Update {
         manager: &'a str,
+        part: Part,
         at: &'a str,
     },
 }
@@ -197,14 +216,21 @@ impl<'a> Change<'a> {
     // The subcommand, by the bytes of the file.
     fn asked(self, object: &'a [u8]) -> Asked<'a> {
         match self {
-            Change::Apply { manager, force, at } => Asked::Apply {
+            Change::Apply {
                 manager,
+                part,
+                force,
+                at,
+            } => Asked::Apply {
+                manager,
+                part,
                 force,
                 at,
                 object,
             },
-            Change::Update { manager, at } => Asked::Update {
+            Change::Update { manager, part, at } => Asked::Update {
                 manager,
+                part,
                 at,
                 object,
             },

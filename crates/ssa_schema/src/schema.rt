@@ -1,8 +1,10 @@
 //! Structural schemas, read from JSON.
 ghost use Rattle.std.specs.Prelude.{true, ◌≡◌, [], IfOk, option_map};
+ghost use Rattle.ssa_model.specs.definitions.Answers.{has_part};
 ghost use Rattle.ssa_model.specs.definitions.Kind.{faults};
 ghost use Rattle.ssa_model.specs.definitions.Schema.{read_schema};
 ghost use Rattle.ssa_json.specs.View.{view};
+ghost use Rattle.ssa_path.specs.Subresources.{part_view};
 ghost use Rattle.ssa_schema.specs.Kinds.{kind_view};
 ghost use Rattle.ssa_model.specs.definitions.Lawful.{is_ordered, IsSchemaKind};
 ghost use Rattle.ssa_schema.specs.Refusals.{first_of};
@@ -20,6 +22,7 @@ use crate::read::refusal::Refusal;
 use crate::read::standing::Standing;
 use crate::read::walk::first_refusal;
 use ssa_json::value::Json;
+use ssa_path::part::Part;
 use std::alloc::{AllocError, Global};
 use std::marker::Model;
 
@@ -116,6 +119,18 @@ impl Schema {
         ensures read { read_schema self.now.source ≡ Ok self.now.kind }
     {
         &self.kind
+    }
+
+    /// Whether objects of the schema have the part: all have what is not `status`, and those with a field of this name have
+    /// `status`.
+    pub fn has_part(&self, part: Part) -> bool
+        ensures { result ≡ has_part self.now.kind (part_view part) }
+    {
+        match (part, &self.kind) {
+            (Part::Main, _) => true,
+            (Part::Status, Kind::Record(fields)) => fields.get("status").is_some(),
+            (Part::Status, _) => false,
+        }
     }
 
     /// The first fault of a value under the schema, none where it fits.

@@ -15,6 +15,7 @@ use ssa_json::write::push_comma;
 use ssa_lines::json_text::{FIRST_ROOM, push_number, push_string, push_value};
 use ssa_merge::manager::ManagerKey;
 use ssa_path::path_text::push_paths;
+use ssa_path::part_members::push_part;
 use std::alloc::{AllocError, Global};
 
 /// The reply to a command that makes a state: what it changes.
@@ -131,6 +132,7 @@ fn push_manager(text: &mut Vec<u8>, manager: &ManagerKey) -> Result<(), AllocErr
     push_string(text, manager.name.as_str())?;
     text.extend_from_slice(b",\"operation\":")?;
     push_string(text, manager.operation.text())?;
+    push_part(text, manager.part)?;
     text.push(b'}')?;
     Ok(())
 }

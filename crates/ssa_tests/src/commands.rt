@@ -2,6 +2,7 @@
 
 use ssa_answers::change::Command;
 use ssa_json::moment::Moment;
+use ssa_path::part::Part;
 use ssa_samples::sample::{json, web};
 use std::alloc::Global;
 use std::test::Fail;
@@ -29,17 +30,24 @@ pub fn command(
     Ok(match way {
         Way::Apply => Command::Apply {
             who,
+            part: Part::Main,
             force: false,
             at,
             object,
         },
         Way::ForcedApply => Command::Apply {
             who,
+            part: Part::Main,
             force: true,
             at,
             object,
         },
-        Way::Update => Command::Update { who, at, object },
+        Way::Update => Command::Update {
+            who,
+            part: Part::Main,
+            at,
+            object,
+        },
     })
 }
 

@@ -2,13 +2,14 @@
 use crate::bodies::{bodies, body, state};
 use ssa_answers::{Asked, command_of};
 use ssa_bench::{Bench, Command};
-use ssa_file::{RecordCounts, record_counts};
+use ssa_file::{RecordCounts, RecordFormat, record_counts};
 use ssa_json::OfReader;
 use ssa_lines::read_line::read_line;
 use ssa_lines::{Line, LineEnd};
 use ssa_merge::{Managers, is_manager_name};
 use ssa_object::body_value::body_value;
 use ssa_object::has_identity;
+use ssa_path::part::Part;
 use ssa_path::{Elem, FieldSet, Path};
 use ssa_record::RecordAnswer;
 use ssa_record::read_record::read_record;
@@ -119,9 +120,10 @@ fn ssa_record_example(rt: HostRuntime) -> Result<(), Fail> {
 
 #[test]
 fn ssa_file_example(rt: HostRuntime) -> Result<(), Fail> {
-    let head = json(rt.alloc(), r#"{"format":2,"future":0,"past":1}"#)?;
+    let head = json(rt.alloc(), r#"{"format":3,"future":0,"past":1}"#)?;
     let counts = record_counts(rt.alloc(), &head)?;
-    assert_eq!(rt; counts, Some(RecordCounts { past: 1, future: 0 }));
+    let format = RecordFormat::Parts;
+    assert_eq!(rt; counts, Some(RecordCounts { format, past: 1, future: 0 }));
     Ok(())
 }
 
@@ -147,6 +149,7 @@ fn ssa_bench_example(rt: HostRuntime) -> Result<(), Fail> {
     let mut bench = Bench::new(rt.alloc(), schema(rt.alloc())?, object)?;
     let command = Command::Apply {
         who,
+        part: Part::Main,
         force: false,
         at,
         object: with_image,

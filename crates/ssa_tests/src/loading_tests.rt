@@ -95,7 +95,7 @@ fn is_taken(alloc: Global, file: &[u8]) -> Result<bool, Fail> {
 fn what_changes_in_one_place_is_loaded(rt: HostRuntime) -> Result<(), Fail> {
     for (before, after) in &CHANGES {
         let file = changed_file(rt.alloc(), before, after)?;
-        assert!(rt; file.starts_with(b"{\"format\":2,\"future\":0,\"past\":2}\n"));
+        assert!(rt; file.starts_with(b"{\"format\":3,\"future\":0,\"past\":2}\n"));
         let taken = is_taken(rt.alloc(), file.as_slice())?;
         assert!(rt; taken, "after {after}");
     }
@@ -107,7 +107,7 @@ const DAMAGES: [(&str, &str); 19] = [
     ("\"past\":1", "\"past\":2"),
     ("\"past\":1", "\"past\":0"),
     ("\"past\":1", "\"past\":1001"),
-    ("\"format\":2", "\"format\":1"),
+    ("\"format\":3", "\"format\":4"),
     ("{\"format\"", "{ \"format\""),
     ("\"type\":\"object\"}\n", "\"type\":\"strings\"}\n"),
     ("\"kind\":\"App\"", "\"kind\":\"\""),
@@ -126,6 +126,22 @@ const DAMAGES: [(&str, &str); 19] = [
     ("\"here\":[],\"leaves\":[]", "\"leaves\":[],\"here\":[]"),
     (",\"put\":[]", ""),
     ("{\"changed\":[]", "{\"added\":[],\"changed\":[]"),
+];
+
+// Places of the file at which a manager may have a subresource, and the same with one.
+const SUBRESOURCES: [(&str, &str); 3] = [
+    (
+        "\"operation\":\"Apply\",\"time\"",
+        "\"operation\":\"Apply\",\"subresource\":\"status\",\"time\"",
+    ),
+    (
+        "\"manager\":\"kubectl\"},\"record\"",
+        "\"manager\":\"kubectl\",\"subresource\":\"status\"},\"record\"",
+    ),
+    (
+        "[[\"kubectl\",\"Apply\"]]",
+        "[[\"kubectl\",\"Apply\",\"status\"]]",
+    ),
 ];
 
 // Others with which a record is none from its state to a valid one.
@@ -183,6 +199,68 @@ fn damaged_files_are_refused(rt: HostRuntime) -> Result<(), Fail> {
     for (part, other) in &DAMAGES {
         let damaged = file.as_str().replacen(rt.alloc(), part, other, 1)?;
         assert!(rt; damaged.as_str() != file.as_str(), "part {part}");
+        assert!(rt; is_refused(rt.alloc(), damaged.as_str()), "other {other}");
+    }
+    Ok(())
+}
+
+// The file in the format before this one.
+fn in_older_format(alloc: Global, file: &str) -> Result<String, Fail> {
+    Ok(file.replacen(alloc, "\"format\":3", "\"format\":2", 1)?)
+}
+
+// The file with a subresource at each of its places.
+fn with_subresources(alloc: Global, file: &str) -> Result<String, Fail> {
+    let mut made = String::from_str(alloc, file)?;
+    for (part, other) in &SUBRESOURCES {
+        made = made.as_str().replacen(alloc, part, other, 1)?;
+    }
+    Ok(made)
+}
+
+#[test]
+fn the_older_format_is_taken_and_saved_in_this_one(rt: HostRuntime) -> Result<(), Fail> {
+    let file = bench_file(rt.alloc())?;
+    let older = in_older_format(rt.alloc(), file.as_str())?;
+    assert!(rt; older.as_str() != file.as_str());
+    let again = saved_again(rt.alloc(), older.as_bytes())?;
+    assert!(rt; again.as_slice() == file.as_bytes());
+    Ok(())
+}
+
+#[test]
+fn a_bench_with_a_subresource_is_taken_in_this_format_alone(rt: HostRuntime) -> Result<(), Fail> {
+    let file = bench_file(rt.alloc())?;
+    let parted = with_subresources(rt.alloc(), file.as_str())?;
+    let again = saved_again(rt.alloc(), parted.as_bytes())?;
+    assert!(rt; again.as_slice() == parted.as_bytes());
+    let older = in_older_format(rt.alloc(), parted.as_str())?;
+    assert!(rt; is_refused(rt.alloc(), older.as_str()));
+    Ok(())
+}
+
+#[test]
+fn the_older_format_has_no_subresource(rt: HostRuntime) -> Result<(), Fail> {
+    let file = bench_file(rt.alloc())?;
+    let older = in_older_format(rt.alloc(), file.as_str())?;
+    for (part, other) in &SUBRESOURCES {
+        let damaged = older.as_str().replacen(rt.alloc(), part, other, 1)?;
+        assert!(rt; damaged.as_str() != older.as_str(), "part {part}");
+        assert!(rt; is_refused(rt.alloc(), damaged.as_str()), "other {other}");
+    }
+    Ok(())
+}
+
+#[test]
+fn another_subresource_is_none(rt: HostRuntime) -> Result<(), Fail> {
+    let file = bench_file(rt.alloc())?;
+    let parted = with_subresources(rt.alloc(), file.as_str())?;
+    for (_part, other) in &SUBRESOURCES {
+        let another = other.replacen(rt.alloc(), "status", "scale", 1)?;
+        let damaged = parted
+            .as_str()
+            .replacen(rt.alloc(), other, another.as_str(), 1)?;
+        assert!(rt; damaged.as_str() != parted.as_str(), "other {other}");
         assert!(rt; is_refused(rt.alloc(), damaged.as_str()), "other {other}");
     }
     Ok(())

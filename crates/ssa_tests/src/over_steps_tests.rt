@@ -9,6 +9,7 @@ use crate::bodies::{body_under, state};
 use ssa_merge::change::{Change, NewBody, change_apply};
 use ssa_merge::managers::Managers;
 use ssa_merge::state::State;
+use ssa_path::part::Part;
 use ssa_samples::sample::{json, moment, schema};
 use ssa_schema::schema::Schema;
 use ssa_turn_body::over_steps::steps_over;
@@ -75,7 +76,7 @@ fn record_text(alloc: Global, steps: &BodySteps) -> Result<String, Fail>
 fn made_under(alloc: Global, schema: &Schema, case: &Case) -> Result<String, Fail> {
     let state = live_state(alloc, schema, case)?;
     let config = body_under(alloc, schema, json(alloc, case.config)?)?;
-    let change = change_apply(alloc, &state, config, "m1", case.force, moment()?)?;
+    let change = change_apply(alloc, &state, config, "m1", Part::Main, case.force, moment()?)?;
     let Change {
         body,
         table: _,

@@ -6,12 +6,14 @@ ghost use Rattle.ssa_model.specs.definitions.Json.{member_of};
 ghost use Rattle.ssa_model.specs.definitions.RecordReading.{is_key, is_operation, key_in, operation_at};
 ghost use Rattle.ssa_told.specs.Telling.{Tells, TellsKey, TellsList};
 
-use crate::value_shape::{list_of, pair_in};
+use crate::value_shape::{items_in, list_of};
 use ssa_json::members::find_member;
 use ssa_json::value::Json;
 use ssa_members::{Members, Name};
 use ssa_merge::entry_members::operation_of;
 use ssa_merge::manager::{ManagerKey, Operation};
+use ssa_path::part::Part;
+use ssa_path::part_members::{part_of_members, part_of_name};
 use std::alloc::{AllocError, Global};
 
 fn told_operation(value: &Json) -> Option<Operation>
@@ -20,10 +22,18 @@ fn told_operation(value: &Json) -> Option<Operation>
     operation_of(value.as_text()?)
 }
 
-// The manager of a name and an operation.
-fn key_of(alloc: Global, name: &Json, operation: &Json) -> Result<Option<ManagerKey>, AllocError>
+// The manager of a name, an operation and a part, where all are told.
+fn key_of(
+    alloc: Global,
+    name: &Json,
+    operation: &Json,
+    part: Option<Part>,
+) -> Result<Option<ManagerKey>, AllocError>
     ensures { IfOk result (λ t. TellsKey t (Some (view name.now)) (Some (view operation.now))) }
 {
+    let Some(part) = part else {
+        return Ok(None);
+    };
     let Some(name) = name.as_text() else {
         return Ok(None);
     };
@@ -31,7 +41,11 @@ fn key_of(alloc: Global, name: &Json, operation: &Json) -> Result<Option<Manager
         return Ok(None);
     };
     let name = Name::from_str(alloc, name)?;
-    Ok(Some(ManagerKey { name, operation }))
+    Ok(Some(ManagerKey {
+        name,
+        operation,
+        part,
+    }))
 }
 
 // The manager of the members `manager` and `operation`.
@@ -45,17 +59,20 @@ pub fn key_at(alloc: Global, members: &Members<Json>) -> Result<Option<ManagerKe
     let Some(operation) = find_member(members, "operation") else {
         return Ok(None);
     };
-    key_of(alloc, name, operation)
+    key_of(alloc, name, operation, part_of_members(members))
 }
 
-// The manager of a list of its name and its operation.
+// The manager of a list of its name and its operation, and of its subresource where it has one.
 fn told_key(alloc: Global, value: &Json) -> Result<Option<ManagerKey>, AllocError>
     ensures { IfOk result (λ t. Tells is_key key_view key_in t (Some (view value.now))) }
 {
-    let Some((name, operation)) = pair_in(value) else {
-        return Ok(None);
-    };
-    key_of(alloc, name, operation)
+    match items_in(value) {
+        [name, operation] => key_of(alloc, name, operation, Some(Part::Main)),
+        [name, operation, subresource] => {
+            key_of(alloc, name, operation, part_of_name(subresource))
+        }
+        _ => Ok(None),
+    }
 }
 
 // The managers of the member `gone`.

@@ -23,6 +23,7 @@ pub mod line_values;
 mod member_names;
 pub mod path_texts;
 pub mod reading_said;
+pub mod subresources;
 mod table_reading;
 pub mod told;
 mod told_parts;
@@ -31,6 +32,7 @@ pub mod value_shape;
 
 pub use line_values::LineValues;
 pub use reading_said::record_texts_say;
+pub use subresources::tells_subresource;
 pub use told::{
     ToldBody, ToldChange, ToldHere, ToldLeaf, ToldOrder, ToldPut, ToldRecord, ToldTable,
 };

@@ -40,6 +40,7 @@ fn is_change_name(name: &str) -> bool
         || is_same_text(name, "lose")
         || is_same_text(name, "manager")
         || is_same_text(name, "operation")
+        || is_same_text(name, "subresource")
         || is_same_text(name, "time")
 }
 
@@ -51,6 +52,7 @@ fn is_entry_name(name: &str) -> bool
         || is_same_text(name, "fieldsV1")
         || is_same_text(name, "manager")
         || is_same_text(name, "operation")
+        || is_same_text(name, "subresource")
         || is_same_text(name, "time")
 }
 

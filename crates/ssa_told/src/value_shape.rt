@@ -54,6 +54,14 @@ pub fn are_texts(items: &[Json]) -> bool
     true
 }
 
+/// The items of a list, none where the value is no list.
+pub fn items_in(value: &Json) -> &[Json] {
+    match value {
+        Json::List(items) => items.as_slice(),
+        _ => &[],
+    }
+}
+
 /// The items of a list of two.
 pub fn pair_in(value: &Json) -> Option<(&Json, &Json)>
     ensures { MatchOption result (IsNoPair (view value.now)) (λ p. view value.now ≡ pair (view p.0.now) (view p.1.now)) }

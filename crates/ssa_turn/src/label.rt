@@ -5,6 +5,8 @@ ghost use Rattle.ssa_model.specs.definitions.Json.{compact};
 ghost use Rattle.ssa_model.specs.definitions.Replies.{label_json};
 ghost use Rattle.ssa_json.specs.View.{view};
 ghost use Rattle.ssa_json.specs.Writable.{IsOfProgram};
+ghost use Rattle.ssa_path.specs.Subresources.{part_view};
+ghost use Rattle.ssa_merge.specs.States.{actor};
 ghost use Rattle.ssa_turn.specs.Histories.{label_view};
 ghost use Rattle.ssa_turn.specs.Dated.{is_dated};
 
@@ -13,6 +15,8 @@ use ssa_json::moment::Moment;
 use ssa_json::value::{Json, Scalar};
 use ssa_json::write::{push_member, push_text_member};
 use ssa_members::Members;
+use ssa_path::part::Part;
+use ssa_path::part_members::{push_part, put_part};
 use std::alloc::{AllocError, Global};
 
 /// The command that made a state.
@@ -22,20 +26,29 @@ pub enum Label {
         at: Moment,
         force: bool,
         who: String,
+        part: Part,
     },
     Update {
         at: Moment,
         who: String,
+        part: Part,
     },
     Strip,
 }
 
-fn applied_json(alloc: Global, at: &Moment, force: bool, who: &str) -> Result<Json, AllocError>
-    ensures { IfOk result (λ v. view v ≡ label_json (applied who.now force at.now)) }
+fn applied_json(
+    alloc: Global,
+    at: &Moment,
+    force: bool,
+    who: &str,
+    part: Part,
+) -> Result<Json, AllocError>
+    ensures { IfOk result (λ v. view v ≡ label_json (applied (actor who.now (part_view part)) force at.now)) }
 {
     let time = at.to_text(alloc)?;
     let force = Json::Scalar(Scalar::Bool(force));
     let mut members = Members::new(alloc);
+    put_part(alloc, &mut members, part)?;
     put_text(alloc, &mut members, "manager", who)?;
     put_member(alloc, &mut members, "force", force)?;
     put_text(alloc, &mut members, "do", "apply")?;
@@ -43,11 +56,17 @@ fn applied_json(alloc: Global, at: &Moment, force: bool, who: &str) -> Result<Js
     Ok(Json::Object(members))
 }
 
-fn updated_json(alloc: Global, at: &Moment, who: &str) -> Result<Json, AllocError>
-    ensures { IfOk result (λ v. view v ≡ label_json (updated who.now at.now)) }
+fn updated_json(
+    alloc: Global,
+    at: &Moment,
+    who: &str,
+    part: Part,
+) -> Result<Json, AllocError>
+    ensures { IfOk result (λ v. view v ≡ label_json (updated (actor who.now (part_view part)) at.now)) }
 {
     let time = at.to_text(alloc)?;
     let mut members = Members::new(alloc);
+    put_part(alloc, &mut members, part)?;
     put_text(alloc, &mut members, "manager", who)?;
     put_text(alloc, &mut members, "do", "update")?;
     put_text(alloc, &mut members, "at", time.as_str())?;
@@ -68,9 +87,10 @@ fn push_applied(
     at: &Moment,
     force: bool,
     who: &str,
+    part: Part,
 ) -> Result<(), AllocError>
-    ensures text { OnOk result (text.new.items ≡ text.old.items ++ compact (label_json (applied who.now force at.now))) }
-    ensures of_program { OnOk result (IsOfProgram (label_json (applied who.now force at.now))) }
+    ensures text { OnOk result (text.new.items ≡ text.old.items ++ compact (label_json (applied (actor who.now (part_view part)) force at.now))) }
+    ensures of_program { OnOk result (IsOfProgram (label_json (applied (actor who.now (part_view part)) force at.now))) }
 {
     let time = at.to_text(alloc)?;
     let forced = Json::Scalar(Scalar::Bool(force));
@@ -79,19 +99,27 @@ fn push_applied(
     push_text_member(text, true, "do", "apply")?;
     push_member(text, true, "force", &forced)?;
     push_text_member(text, true, "manager", who)?;
+    push_part(text, part)?;
     text.push(b'}')?;
     Ok(())
 }
 
-fn push_updated(alloc: Global, text: &mut Vec<u8>, at: &Moment, who: &str) -> Result<(), AllocError>
-    ensures text { OnOk result (text.new.items ≡ text.old.items ++ compact (label_json (updated who.now at.now))) }
-    ensures of_program { OnOk result (IsOfProgram (label_json (updated who.now at.now))) }
+fn push_updated(
+    alloc: Global,
+    text: &mut Vec<u8>,
+    at: &Moment,
+    who: &str,
+    part: Part,
+) -> Result<(), AllocError>
+    ensures text { OnOk result (text.new.items ≡ text.old.items ++ compact (label_json (updated (actor who.now (part_view part)) at.now))) }
+    ensures of_program { OnOk result (IsOfProgram (label_json (updated (actor who.now (part_view part)) at.now))) }
 {
     let time = at.to_text(alloc)?;
     text.push(b'{')?;
     push_text_member(text, false, "at", time.as_str())?;
     push_text_member(text, true, "do", "update")?;
     push_text_member(text, true, "manager", who)?;
+    push_part(text, part)?;
     text.push(b'}')?;
     Ok(())
 }
@@ -113,8 +141,13 @@ impl Label {
         ensures { IfOk result (λ v. view v ≡ label_json (label_view self.now)) }
     {
         match self {
-            Label::Apply { at, force, who } => applied_json(alloc, at, *force, who.as_str()),
-            Label::Update { at, who } => updated_json(alloc, at, who.as_str()),
+            Label::Apply {
+                at,
+                force,
+                who,
+                part,
+            } => applied_json(alloc, at, *force, who.as_str(), *part),
+            Label::Update { at, who, part } => updated_json(alloc, at, who.as_str(), *part),
             Label::Strip => stripped_json(alloc),
         }
     }
@@ -125,8 +158,13 @@ impl Label {
         ensures of_program { OnOk result (IsOfProgram (label_json (label_view self.now))) }
     {
         match self {
-            Label::Apply { at, force, who } => push_applied(alloc, text, at, *force, who.as_str()),
-            Label::Update { at, who } => push_updated(alloc, text, at, who.as_str()),
+            Label::Apply {
+                at,
+                force,
+                who,
+                part,
+            } => push_applied(alloc, text, at, *force, who.as_str(), *part),
+            Label::Update { at, who, part } => push_updated(alloc, text, at, who.as_str(), *part),
             Label::Strip => push_stripped(text),
         }
     }

@@ -5,13 +5,17 @@ ghost use Rattle.ssa_model.specs.laws.BenchFiles.{given_if, label_in};
 ghost use Rattle.ssa_json.specs.Readings.{readings};
 ghost use Rattle.ssa_json.specs.View.{view};
 ghost use Rattle.ssa_turn.specs.Histories.{label_view};
-ghost use Rattle.ssa_turn.specs.LabelReading.{MomentIn, said_text, said_truth};
+ghost use Rattle.ssa_turn.specs.LabelReading.{MomentIn, said_actor, said_text, said_truth};
+ghost use Rattle.ssa_path.specs.Subresources.{part_view};
+ghost use Rattle.ssa_model.specs.definitions.Commands.{subresource_in};
+ghost use Rattle.ssa_model.specs.definitions.Json.{member_at};
 
 use crate::label::Label;
 use ssa_json::moment::Moment;
 use ssa_json::text::is_same_text;
 use ssa_json::value::{Json, Scalar};
 use ssa_merge::names::is_manager_name;
+use ssa_path::part::Part;
 use std::alloc::{AllocError, Global};
 
 // The member's text, the empty one where it is no text.
@@ -47,11 +51,21 @@ fn moment_in(value: &Json) -> Option<Moment>
     }
 }
 
+// The part of a value with a `subresource`, and of one without.
+fn part_in(value: &Json) -> Part
+    ensures { part_view result ≡ subresource_in (member_at (codes "subresource") (view value.now)) }
+{
+    match value.member("subresource") {
+        Some(_) => Part::Status,
+        None => Part::Main,
+    }
+}
+
 // An Apply, where its name and its moment are ones.
 fn applied_in(alloc: Global, value: &Json) -> Result<Option<Label>, AllocError>
     ensures { IfOk result (λ found. option_map label_view found ≡ given_if
         (is_manager_name (said_text (codes "manager") (view value.now)) && readings.moment (said_text (codes "at") (view value.now)))
-        (applied (said_text (codes "manager") (view value.now)) (said_truth (codes "force") (view value.now)) (said_text (codes "at") (view value.now)))) }
+        (applied (said_actor (view value.now)) (said_truth (codes "force") (view value.now)) (said_text (codes "at") (view value.now)))) }
 {
     let who = text_in(value, "manager");
     if !is_manager_name(who) {
@@ -62,14 +76,20 @@ fn applied_in(alloc: Global, value: &Json) -> Result<Option<Label>, AllocError>
     };
     let force = truth_in(value, "force");
     let who = String::from_str(alloc, who)?;
-    Ok(Some(Label::Apply { at, force, who }))
+    let part = part_in(value);
+    Ok(Some(Label::Apply {
+        at,
+        force,
+        who,
+        part,
+    }))
 }
 
 // An Update, likewise.
 fn updated_in(alloc: Global, value: &Json) -> Result<Option<Label>, AllocError>
     ensures { IfOk result (λ found. option_map label_view found ≡ given_if
         (is_manager_name (said_text (codes "manager") (view value.now)) && readings.moment (said_text (codes "at") (view value.now)))
-        (updated (said_text (codes "manager") (view value.now)) (said_text (codes "at") (view value.now)))) }
+        (updated (said_actor (view value.now)) (said_text (codes "at") (view value.now)))) }
 {
     let who = text_in(value, "manager");
     if !is_manager_name(who) {
@@ -79,7 +99,8 @@ fn updated_in(alloc: Global, value: &Json) -> Result<Option<Label>, AllocError>
         return Ok(None);
     };
     let who = String::from_str(alloc, who)?;
-    Ok(Some(Label::Update { at, who }))
+    let part = part_in(value);
+    Ok(Some(Label::Update { at, who, part }))
 }
 
 impl Label {

@@ -19,6 +19,7 @@ use ssa_json::moment::Moment;
 use ssa_json::value::Json;
 use ssa_members::Members;
 use ssa_merge::manager::ManagerKey;
+use ssa_path::part_members::put_part;
 use std::alloc::{AllocError, Global};
 
 // Puts a moment, where there is one, among members.
@@ -48,6 +49,7 @@ fn change_value(alloc: Global, change: &EntryChange) -> Result<Json, AllocError>
     let gain = change.set.gain.as_trie().to_fields_v1(alloc)?;
     let lose = change.set.lose.as_trie().to_fields_v1(alloc)?;
     let mut members = Members::new(alloc);
+    put_part(alloc, &mut members, change.key.part)?;
     put_text(
         alloc,
         &mut members,
@@ -80,8 +82,13 @@ fn key_value(alloc: Global, key: &ManagerKey) -> Result<Json, AllocError>
 {
     let name = Json::of_text(alloc, key.name.as_str())?;
     let operation = Json::of_text(alloc, key.operation.text())?;
-    let pair = Json::of_pair(alloc, name, operation)?;
-    Ok(pair)
+    let mut items = Vec::with_capacity(alloc, 3)?;
+    items.push(name)?;
+    items.push(operation)?;
+    if let Some(subresource) = key.part.subresource() {
+        items.push(Json::of_text(alloc, subresource)?)?;
+    }
+    Ok(Json::List(items))
 }
 
 // The managers that are gone.

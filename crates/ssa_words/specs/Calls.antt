@@ -62,12 +62,13 @@ IsWholeMatch (Some p) = IsWhole p.0 p.1
 abbrev pub IsCallOf : Text → List Row → Call → Type 0
 IsCallOf name rows (Init schema object bench) = (name ≡ codes "init") × HasText rows (codes "SCHEMA") schema.now
     × HasText rows (codes "OBJECT") object.now × HasText rows (codes "BENCH") bench.now
-IsCallOf name rows (Apply bench file at manager force) = (name ≡ codes "apply") × HasText rows (codes "BENCH") bench.now
+IsCallOf name rows (Apply bench file at manager status force) = (name ≡ codes "apply") × HasText rows (codes "BENCH") bench.now
     × HasText rows (codes "FILE") file.now × HasText rows (codes "at") at.now
-    × HasText rows (codes "field-manager") manager.now × (force ≡ was_given (codes "force-conflicts") rows)
-IsCallOf name rows (Update bench file at manager) = (name ≡ codes "update") × HasText rows (codes "BENCH") bench.now
+    × HasText rows (codes "field-manager") manager.now × (status ≡ was_given (codes "subresource") rows)
+    × (force ≡ was_given (codes "force-conflicts") rows)
+IsCallOf name rows (Update bench file at manager status) = (name ≡ codes "update") × HasText rows (codes "BENCH") bench.now
     × HasText rows (codes "FILE") file.now × HasText rows (codes "at") at.now
-    × HasText rows (codes "field-manager") manager.now
+    × HasText rows (codes "field-manager") manager.now × (status ≡ was_given (codes "subresource") rows)
 IsCallOf name rows (Strip bench) = (name ≡ codes "strip") × HasText rows (codes "BENCH") bench.now
 IsCallOf name rows (Undo bench) = (name ≡ codes "undo") × HasText rows (codes "BENCH") bench.now
 IsCallOf name rows (Redo bench) = (name ≡ codes "redo") × HasText rows (codes "BENCH") bench.now

@@ -8,6 +8,7 @@ use Rattle.clap.specs.declared.builder.arg.Arg.{Arg}
 use Rattle.clap.specs.declared.builder.command.Command.{Command}
 use Rattle.clap.specs.declared.builder.command.Command.TheViews.{out-Command}
 use Rattle.clap.specs.declared.builder.action.ArgAction.TheVariants.{SetTrue}
+use Rattle.clap.specs.declared.builder.value_parser.ValueParser.TheVariants.{Names}
 
 -- a word that has to stand at its place
 abbrev pub place : Text → Rule
@@ -29,6 +30,14 @@ field_manager = record (new_rule (codes "field-manager")) {
   defaults = codes "kubectl" ∷ [];
 }
 
+-- `--subresource status`
+abbrev pub subresource : Rule
+subresource = record (new_rule (codes "subresource")) {
+  long = Some (codes "subresource");
+  value_names = 1;
+  parser = Some (Names (codes "status" ∷ []));
+}
+
 -- `--NAME`, given or not
 abbrev pub flag : Text → Rule
 flag name = record (new_rule name) { long = Some name; action = Some SetTrue }
@@ -46,9 +55,9 @@ word name rules = record { top = record (new_shape name) { rules = rules }; subs
 abbrev pub init : App
 init = word (codes "init") (place (codes "SCHEMA") ∷ place (codes "OBJECT") ∷ bench ∷ [])
 
--- a word with a bench, a file, a moment and a manager, and with more
+-- a word with a bench, a file, a moment, a manager and a subresource, and with more
 abbrev pub writing : Text → List Rule → App
-writing name more = word name (bench ∷ file ∷ at ∷ field_manager ∷ more)
+writing name more = word name (bench ∷ file ∷ at ∷ field_manager ∷ subresource ∷ more)
 
 abbrev pub apply : App
 apply = writing (codes "apply") (flag (codes "force-conflicts") ∷ [])

@@ -15,6 +15,8 @@ pub enum Call<'a> {
         file: &'a str,
         at: &'a str,
         manager: &'a str,
+        /// Whether it acts through the subresource `status`.
+        status: bool,
         force: bool,
     },
     /// Update the object to that of a file.
@@ -23,6 +25,8 @@ pub enum Call<'a> {
         file: &'a str,
         at: &'a str,
         manager: &'a str,
+        /// Whether it acts through the subresource `status`.
+        status: bool,
     },
     /// Strip the object of its managers.
     Strip {

@@ -3,6 +3,7 @@ ghost use Rattle.std.specs.Prelude.{[], ◌++◌, IfOk};
 ghost use Rattle.clap.specs.Words.{App, with_subcommand};
 ghost use Rattle.ssa_words.specs.Table as spec;
 
+use clap::builder::ValueParser;
 use clap::{Arg, ArgAction, Command};
 use std::alloc::{AllocError, Global};
 
@@ -45,6 +46,17 @@ fn field_manager<'a>(alloc: Global) -> Arg<'a>
         .help("The manager that gives the command")
 }
 
+// The subresource through which the command acts. There is one.
+fn subresource<'a>(alloc: Global) -> Arg<'a>
+    ensures { spec.IsArg spec.subresource result }
+{
+    Arg::new(alloc, "subresource")
+        .long("subresource")
+        .value_name("NAME")
+        .value_parser(ValueParser::Names(&["status"]))
+        .help("The subresource that it acts through")
+}
+
 // `--name`, given or not.
 fn flag<'a>(alloc: Global, name: &'a str, help: &'a str) -> Arg<'a>
     ensures { spec.IsArg (spec.flag name.entry.now) result }
@@ -65,7 +77,7 @@ fn init<'a>(alloc: Global) -> Result<Command<'a>, AllocError>
         .arg(bench(alloc))
 }
 
-// A word with a bench, a file, a moment and a manager.
+// A word with a bench, a file, a moment, a manager and a subresource.
 fn writing<'a>(alloc: Global, name: &'a str, about: &'a str) -> Result<Command<'a>, AllocError>
     ensures { IfOk result (spec.IsCommand (spec.writing name.entry.now [])) }
 {
@@ -74,7 +86,8 @@ fn writing<'a>(alloc: Global, name: &'a str, about: &'a str) -> Result<Command<'
         .arg(bench(alloc))?
         .arg(file(alloc))?
         .arg(at(alloc))?
-        .arg(field_manager(alloc))
+        .arg(field_manager(alloc))?
+        .arg(subresource(alloc))
 }
 
 fn apply<'a>(alloc: Global) -> Result<Command<'a>, AllocError>

@@ -108,6 +108,7 @@ fn apply<'a>(found: &ArgMatches<'a>) -> Call<'a>
         file: text(found, "FILE"),
         at: text(found, "at"),
         manager: text(found, "field-manager"),
+        status: is_given(found, "subresource"),
         force: is_given(found, "force-conflicts"),
     }
 }
@@ -122,6 +123,7 @@ fn update<'a>(found: &ArgMatches<'a>) -> Call<'a>
         file: text(found, "FILE"),
         at: text(found, "at"),
         manager: text(found, "field-manager"),
+        status: is_given(found, "subresource"),
     }
 }
 

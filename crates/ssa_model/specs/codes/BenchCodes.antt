@@ -6,11 +6,12 @@ use Rattle.std.specs.Coded.{Coded, code_by, coded×, coded⊎, coded_ℕ, coded_
 use base.Stored.{Gv, gnil, gnum, gcons}
 use Rattle.ssa_model.specs.definitions.Json.{Text, Json}
 use Rattle.ssa_model.specs.definitions.Kind.{ScalarKind, texts, wholes, truths, Shape, scalar_shape, record_shape, dict_shape, list_shape, ShapeFields, no_shape_fields, shape_field, Kind, scalar_kind, atomic_of, record_of, dict_of, set_of, items_of, Fields, no_fields, kind_field}
+use Rattle.ssa_model.specs.definitions.Parts.{Actor}
 use Rattle.ssa_model.specs.definitions.Operations.{State}
 use Rattle.ssa_model.specs.definitions.History.{Label, applied, updated, stripped, Step, Timeline, Bench}
 use Rattle.ssa_model.specs.definitions.Schema.{Schema}
 use Rattle.ssa_model.specs.definitions.Objects.{Identity}
-use Rattle.ssa_model.specs.codes.Codes.{coded_text, coded_json, coded_state, first_part, second_part}
+use Rattle.ssa_model.specs.codes.Codes.{coded_text, coded_json, coded_state, part_bit, bit_part, bit_part-part_bit, first_part, second_part}
 
 abbrev pub scalar_kind_bits : ScalarKind → Bool × Bool
 scalar_kind_bits texts = (Bool.false, Bool.false)
@@ -142,12 +143,18 @@ coded_kind = record { code = code_kind; inj = kind-inj }
 
 -- ---- histories
 
-abbrev pub label_cases : Label → (Text × (Bool × Text)) ⊎ ((Text × Text) ⊎ Bool)
+pub actor_back : (a : Actor) → ◌≡◌ {A = Actor} (record { name = a.name; part = bit_part (part_bit a.part) }) a
+actor_back a = λ i. record { name = a.name; part = bit_part-part_bit a.part i }
+
+abbrev pub coded_actor : Coded Actor
+coded_actor = code_by (Text × Bool) (coded× coded_text coded_bool) (λ a. (a.name, part_bit a.part)) (λ p. record { name = p.0; part = bit_part p.1 }) actor_back
+
+abbrev pub label_cases : Label → (Actor × (Bool × Text)) ⊎ ((Actor × Text) ⊎ Bool)
 label_cases (applied who force at) = inl (who, (force, at))
 label_cases (updated who at) = inr (inl (who, at))
 label_cases stripped = inr (inr Bool.true)
 
-abbrev pub cases_label : (Text × (Bool × Text)) ⊎ ((Text × Text) ⊎ Bool) → Label
+abbrev pub cases_label : (Actor × (Bool × Text)) ⊎ ((Actor × Text) ⊎ Bool) → Label
 cases_label (inl a) = applied a.0 a.1.0 a.1.1
 cases_label (inr (inl u)) = updated u.0 u.1
 cases_label (inr (inr b)) = stripped
@@ -159,8 +166,8 @@ cases_label-label_cases stripped = refl
 
 abbrev pub coded_label : Coded Label
 coded_label =
-    code_by ((Text × (Bool × Text)) ⊎ ((Text × Text) ⊎ Bool))
-    (coded⊎ (coded× coded_text (coded× coded_bool coded_text)) (coded⊎ (coded× coded_text coded_text) coded_bool)) label_cases cases_label
+    code_by ((Actor × (Bool × Text)) ⊎ ((Actor × Text) ⊎ Bool))
+    (coded⊎ (coded× coded_actor (coded× coded_bool coded_text)) (coded⊎ (coded× coded_actor coded_text) coded_bool)) label_cases cases_label
     cases_label-label_cases
 
 abbrev pub coded_step : Coded Step

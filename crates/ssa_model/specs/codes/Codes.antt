@@ -8,6 +8,7 @@ use Rattle.ssa_model.specs.definitions.Json.{Text, Scalar, text, whole, truth, J
 use Rattle.ssa_model.specs.definitions.Path.{Element, field, key, value, Path}
 use Rattle.ssa_model.specs.definitions.PathMap.{PathMap, PathSet, same_entries_map}
 use Rattle.ssa_model.specs.definitions.Body.{Content, leaf, atom, record_branch, dict_branch, list_branch, Body}
+use Rattle.ssa_model.specs.definitions.Parts.{Subresource, main, status}
 use Rattle.ssa_model.specs.definitions.Table.{Operation, applies, updates, ManagerKey, Entry, Table}
 use Rattle.ssa_model.specs.definitions.Operations.{State}
 
@@ -153,12 +154,25 @@ pub bit_operation-operation_bit : (o : Operation) → bit_operation (operation_b
 bit_operation-operation_bit applies = refl
 bit_operation-operation_bit updates = refl
 
-pub key_back : (k : ManagerKey) → ◌≡◌ {A = ManagerKey} (record { name = k.name; operation = bit_operation (operation_bit k.operation) }) k
-key_back k = λ i. record { name = k.name; operation = bit_operation-operation_bit k.operation i }
+abbrev pub part_bit : Subresource → Bool
+part_bit main = Bool.false
+part_bit status = Bool.true
+
+abbrev pub bit_part : Bool → Subresource
+bit_part Bool.false = main
+bit_part Bool.true = status
+
+pub bit_part-part_bit : (s : Subresource) → bit_part (part_bit s) ≡ s
+bit_part-part_bit main = refl
+bit_part-part_bit status = refl
+
+pub key_back : (k : ManagerKey)
+    → ◌≡◌ {A = ManagerKey} (record { name = k.name; operation = bit_operation (operation_bit k.operation); part = bit_part (part_bit k.part) }) k
+key_back k = λ i. record { name = k.name; operation = bit_operation-operation_bit k.operation i; part = bit_part-part_bit k.part i }
 
 abbrev pub coded_key : Coded ManagerKey
-coded_key = code_by (Text × Bool) (coded× coded_text coded_bool) (λ k. (k.name, operation_bit k.operation))
-    (λ p. record { name = p.0; operation = bit_operation p.1 }) key_back
+coded_key = code_by (Text × (Bool × Bool)) (coded× coded_text (coded× coded_bool coded_bool)) (λ k. (k.name, (operation_bit k.operation, part_bit k.part)))
+    (λ p. record { name = p.0; operation = bit_operation p.1.0; part = bit_part p.1.1 }) key_back
 
 abbrev pub coded_entry : Coded Entry
 coded_entry = code_by (ManagerKey × (PathSet × Text)) (coded× coded_key (coded× coded_set coded_text)) (λ e. (e.manager, (e.owned, e.moment)))

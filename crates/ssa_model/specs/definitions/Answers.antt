@@ -1,13 +1,14 @@
 -- The answer to a command, and a run of commands.
-use Rattle.std.specs.Prelude.{ℕ, ◌+◌, ◌-◌, List, [], ◌∷◌, Bool, not, ◌&&◌, ◌==◌, length, Some, None, Result, Ok, Err, if◌then◌else◌, nat_lt, nat_le, codes, map, filter, take, drop}
+use Rattle.std.specs.Prelude.{ℕ, ◌+◌, ◌-◌, List, [], ◌∷◌, Bool, true, false, not, ◌&&◌, ◌==◌, length, Some, None, is_some, Result, Ok, Err, if◌then◌else◌, nat_lt, nat_le, codes, map, filter, take, drop}
 use Rattle.ssa_model.specs.definitions.Json.{Text, Json, scalar, list, object}
 use Rattle.ssa_model.specs.definitions.Limits.{most_places, most_past}
 use Rattle.ssa_model.specs.definitions.Schema.{Schema}
 use Rattle.ssa_model.specs.definitions.Path.{Path}
 use Rattle.ssa_model.specs.definitions.PathMap.{PathSet, has, size}
-use Rattle.ssa_model.specs.definitions.Kind.{Kind, BodyFault, wrong_type, faults}
+use Rattle.ssa_model.specs.definitions.Kind.{Kind, record_of, kind_of, BodyFault, wrong_type, faults}
 use Rattle.ssa_model.specs.definitions.Body.{Body, flat, added, modified, removed}
-use Rattle.ssa_model.specs.definitions.Table.{applies, updates, ManagerKey, Table}
+use Rattle.ssa_model.specs.definitions.Parts.{Subresource, main, status, Actor}
+use Rattle.ssa_model.specs.definitions.Table.{applies, updates, ManagerKey, key_of, Table}
 use Rattle.ssa_model.specs.definitions.Operations as operations
 use Rattle.ssa_model.specs.definitions.Operations.{State, Refusal, too_many_paths}
 use Rattle.ssa_model.specs.definitions.Objects.{Identity, value_at, identity_of, is_missing, is_some_object, is_identity, same_identity, body_value, file_value}
@@ -23,6 +24,7 @@ pub data Fault : Type 0 where
   managed_fields_given : Fault
   entry_fault : EntryFault → Fault
   manager_name : Fault
+  no_subresource : Fault
   history_full : Fault
   nothing_to_undo : Fault
   nothing_to_redo : Fault
@@ -101,8 +103,8 @@ module _ (readings : Readings) where
 
 -- A command whose moment is one, and whose path is read.
 pub data Command : Type 0 where
-  apply : Text → Bool → Text → Json → Command
-  update : Text → Text → Json → Command
+  apply : Actor → Bool → Text → Json → Command
+  update : Actor → Text → Json → Command
   strip : Command
   undo : Command
   redo : Command
@@ -142,12 +144,19 @@ abbrev pub accept_or_refuse : Bench → Text → Label → Result State Refusal 
 accept_or_refuse bench word label (Ok s) = accept bench word label s
 accept_or_refuse bench word label (Err r) = (fault (refused r), bench)
 
+-- the schema has what the part is of
+abbrev pub has_part : Kind → Subresource → Bool
+has_part kind main = true
+has_part (record_of fs) status = is_some (kind_of (codes "status") fs)
+has_part _ status = false
+
 -- with the body of the object, or refused before it
-abbrev pub with_body : Bench → Text → Json → (Body → Answer) → Answer
+abbrev pub with_body : Bench → Actor → Json → (Body → Answer) → Answer
 with_body bench who v go =
     if nat_le most_past (past_len bench.timeline) then (fault history_full, bench)
-    else (if not (is_manager_name who) then (fault manager_name, bench)
-    else (elim (command_body bench v) [ Ok body ↦ go body | Err f ↦ (fault f, bench) ]))
+    else (if not (is_manager_name who.name) then (fault manager_name, bench)
+    else (if not (has_part bench.schema.kind who.part) then (fault no_subresource, bench)
+    else (elim (command_body bench v) [ Ok body ↦ go body | Err f ↦ (fault f, bench) ])))
 
 abbrev pub owners_of : Table → Path → List ManagerKey
 owners_of table p = map (λ e. e.manager) (filter (λ e. has e.owned p) table)
@@ -155,16 +164,16 @@ owners_of table p = map (λ e. e.manager) (filter (λ e. has e.owned p) table)
 abbrev pub labels_of : Bench → List Label
 labels_of bench = map (λ s. s.label) bench.timeline.later
 
-abbrev pub apply_answer : Bench → Text → Bool → Text → Body → Answer
+abbrev pub apply_answer : Bench → Actor → Bool → Text → Body → Answer
 apply_answer bench who force at config =
     accept_or_refuse bench (codes "apply") (applied who force at)
-    (operations.apply (present bench.timeline) (record { name = who; operation = applies }) config force at)
+    (operations.apply (present bench.timeline) (key_of applies who) config force at)
 
 abbrev pub answer : Bench → Command → Answer
 answer bench (apply who force at v) = with_body bench who v (apply_answer bench who force at)
 answer bench (update who at v) =
     with_body bench who v (λ body. accept_or_refuse bench (codes "update") (updated who at)
-    (operations.update (present bench.timeline) (record { name = who; operation = updates }) body at))
+    (operations.update (present bench.timeline) (key_of updates who) body at))
 answer bench strip =
     if nat_le most_past (past_len bench.timeline) then (fault history_full, bench)
     else accept bench (codes "strip") stripped (operations.strip (present bench.timeline))

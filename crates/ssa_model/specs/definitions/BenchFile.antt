@@ -21,8 +21,8 @@ pub record IsReadBack (readings : Readings) (e : Entry) : Type 0 where
 -- ---- valid benches
 
 abbrev pub IsLabel : Readings → Label → Type 0
-IsLabel readings (applied who force at) = (is_manager_name who ≡ true) × (readings.moment at ≡ true)
-IsLabel readings (updated who at) = (is_manager_name who ≡ true) × (readings.moment at ≡ true)
+IsLabel readings (applied who force at) = (is_manager_name who.name ≡ true) × (readings.moment at ≡ true)
+IsLabel readings (updated who at) = (is_manager_name who.name ≡ true) × (readings.moment at ≡ true)
 IsLabel readings stripped = Unit {0}
 
 -- what a later state of a bench is, beside being valid

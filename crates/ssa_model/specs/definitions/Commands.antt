@@ -3,13 +3,14 @@ use Rattle.std.specs.Prelude.{List, [], ◌∷◌, Bool, true, false, not, ◌&&
 use Rattle.std.specs.List.{list_any, list_all}
 use Rattle.ssa_model.specs.definitions.Json.{Text, text, truth, Json, scalar, list, object, Members, no_members, member, member_of, same_text, as_text}
 use Rattle.ssa_model.specs.definitions.Schema.{is_text, list_of_texts, has_member}
+use Rattle.ssa_model.specs.definitions.Parts.{Subresource, main, status, Actor}
 
 -- A command as it is given, its moment and its path not yet read.
 pub data Command : Type 0 where
-  -- manager, force, moment, object
-  apply : Text → Bool → Text → Json → Command
-  -- manager, moment, object
-  update : Text → Text → Json → Command
+  -- who, force, moment, object
+  apply : Actor → Bool → Text → Json → Command
+  -- who, moment, object
+  update : Actor → Text → Json → Command
   strip : Command
   undo : Command
   redo : Command
@@ -25,16 +26,23 @@ pub data MemberType : Type 0 where
   text_member : MemberType
   truth_member : MemberType
   texts_member : MemberType
+  -- the name of a subresource
+  part_member : MemberType
   any_member : MemberType
 
 abbrev pub is_truth : Json → Bool
 is_truth (scalar (truth b)) = true
 is_truth _ = false
 
+abbrev pub is_subresource : Json → Bool
+is_subresource (scalar (text t)) = same_text t (codes "status")
+is_subresource _ = false
+
 abbrev pub is_of_type : MemberType → Json → Bool
 is_of_type text_member v = is_text v
 is_of_type truth_member v = is_truth v
 is_of_type texts_member v = is_some (list_of_texts v)
+is_of_type part_member v = is_subresource v
 is_of_type any_member v = true
 
 pub record MemberRule : Type 0 where
@@ -73,9 +81,13 @@ session_rules =
     record {
       word = codes "apply";
       members = needs (codes "at") text_member ∷ needs (codes "manager") text_member ∷ needs (codes "object") any_member
-          ∷ may_have (codes "force") truth_member ∷ [];
+          ∷ may_have (codes "force") truth_member ∷ may_have (codes "subresource") part_member ∷ [];
     }
-    ∷ record { word = codes "update"; members = needs (codes "at") text_member ∷ needs (codes "manager") text_member ∷ needs (codes "object") any_member ∷ [] }
+    ∷ record {
+      word = codes "update";
+      members = needs (codes "at") text_member ∷ needs (codes "manager") text_member ∷ needs (codes "object") any_member
+          ∷ may_have (codes "subresource") part_member ∷ [];
+    }
     ∷ record { word = codes "strip"; members = [] }
     ∷ record { word = codes "undo"; members = [] }
     ∷ record { word = codes "redo"; members = [] }
@@ -107,6 +119,14 @@ abbrev pub value_in : Option Json → Json
 value_in (Some v) = v
 value_in None = object no_members
 
+abbrev pub subresource_in : Option Json → Subresource
+subresource_in None = main
+subresource_in (Some v) = status
+
+-- the manager that members name, and the subresource
+abbrev pub actor_in : Members → Actor
+actor_in ms = record { name = text_in (member_of (codes "manager") ms); part = subresource_in (member_of (codes "subresource") ms) }
+
 abbrev pub texts_in : Option Json → List Text
 texts_in (Some v) = elim (list_of_texts v) [ None ↦ [] | Some ts ↦ ts ]
 texts_in None = []
@@ -114,9 +134,9 @@ texts_in None = []
 -- the command of a word and members that follow its rule
 abbrev pub command_with : Text → Members → Command
 command_with word ms =
-    if same_text word (codes "apply") then apply (text_in (member_of (codes "manager") ms)) (truth_in (member_of (codes "force") ms))
+    if same_text word (codes "apply") then apply (actor_in ms) (truth_in (member_of (codes "force") ms))
     (text_in (member_of (codes "at") ms)) (value_in (member_of (codes "object") ms))
-    else (if same_text word (codes "update") then update (text_in (member_of (codes "manager") ms)) (text_in (member_of (codes "at") ms))
+    else (if same_text word (codes "update") then update (actor_in ms) (text_in (member_of (codes "at") ms))
     (value_in (member_of (codes "object") ms))
     else (if same_text word (codes "strip") then strip
     else (if same_text word (codes "undo") then undo

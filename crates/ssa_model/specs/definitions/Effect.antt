@@ -2,7 +2,8 @@
 use Rattle.std.specs.Prelude.{◌≡◌, ◌≤◌, List, [], ◌∷◌, Bool, true, false, if◌then◌else◌, length, take, Result, Ok, Err, ◌++◌, Option, Some, None, option_map}
 use Rattle.ssa_model.specs.definitions.Json.{Text}
 use Rattle.ssa_model.specs.definitions.Body.{Body}
-use Rattle.ssa_model.specs.definitions.Table.{applies, updates}
+use Rattle.ssa_model.specs.definitions.Parts.{Actor}
+use Rattle.ssa_model.specs.definitions.Table.{applies, updates, key_of}
 use Rattle.ssa_model.specs.definitions.Operations as operations
 use Rattle.ssa_model.specs.definitions.Operations.{State, Refusal}
 use Rattle.ssa_model.specs.definitions.History.{Label, applied, updated, stripped, Step, Timeline, Bench, present}
@@ -10,8 +11,8 @@ use Rattle.ssa_model.specs.definitions.Answers.{Command, apply, update, strip, u
 
 -- an accepted command, with the body of its object
 pub data Deed : Type 0 where
-  applying : Text → Bool → Text → Body → Deed
-  updating : Text → Text → Body → Deed
+  applying : Actor → Bool → Text → Body → Deed
+  updating : Actor → Text → Body → Deed
   stripping : Deed
 
 abbrev pub label_of : Deed → Label
@@ -37,8 +38,8 @@ deed_of bench log = None
 -- the state that a command makes of a state
 abbrev pub carried_out : State → Deed → Result State Refusal
 carried_out s (applying who force at config) =
-    operations.apply s (record { name = who; operation = applies }) config force at
-carried_out s (updating who at object) = operations.update s (record { name = who; operation = updates }) object at
+    operations.apply s (key_of applies who) config force at
+carried_out s (updating who at object) = operations.update s (key_of updates who) object at
 carried_out s stripping = Ok (operations.strip s)
 
 abbrev pub and_then : Result State Refusal → (State → Result State Refusal) → Result State Refusal

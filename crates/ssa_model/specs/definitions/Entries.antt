@@ -1,8 +1,9 @@
 -- The entries of `managedFields`, and the object of a whole state.
 use Rattle.ssa_model.specs.definitions.FieldsV1.{fields_json, nothing_written}
 use Rattle.std.specs.Prelude.{[], ◌∷◌, Bool, Option, Some, None, if◌then◌else◌, codes}
-use Rattle.ssa_model.specs.definitions.Json.{Text, text, Json, scalar, list, object, Items, no_items, item, no_members, member}
+use Rattle.ssa_model.specs.definitions.Json.{Text, text, Json, scalar, list, object, Items, no_items, item, Members, no_members, member}
 use Rattle.ssa_model.specs.definitions.Kind.{Kind}
+use Rattle.ssa_model.specs.definitions.Parts.{Subresource, main, status}
 use Rattle.ssa_model.specs.definitions.Table.{Operation, applies, updates, Entry, Table}
 use Rattle.ssa_model.specs.definitions.Operations.{State}
 use Rattle.ssa_model.specs.definitions.Objects.{Identity, object_of_body, value_at, with_member, members_in}
@@ -14,6 +15,11 @@ operation_text updates = codes "Update"
 abbrev pub text_json : Text → Json
 text_json t = scalar (text t)
 
+-- a part is written where it is that of a subresource
+abbrev pub part_members : Subresource → Members → Members
+part_members main ms = ms
+part_members status ms = member (codes "subresource") (text_json (codes "status")) ms
+
 abbrev pub entry_json : Json → Entry → Json
 entry_json version e =
     object (member (codes "apiVersion") version
@@ -21,7 +27,7 @@ entry_json version e =
     (member (codes "fieldsV1") (fields_json e.owned)
     (member (codes "manager") (text_json e.manager.name)
     (member (codes "operation") (text_json (operation_text e.manager.operation))
-    (member (codes "time") (text_json e.moment) no_members))))))
+    (part_members e.manager.part (member (codes "time") (text_json e.moment) no_members)))))))
 
 abbrev pub entry_items : Json → Table → Items
 entry_items version [] = no_items

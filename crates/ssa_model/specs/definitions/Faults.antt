@@ -44,6 +44,7 @@ pub data Code : Type 0 where
   identity : Code
   managed_fields_given : Code
   manager_name : Code
+  no_subresource : Code
   history_full : Code
   nothing_to_undo : Code
   nothing_to_redo : Code
@@ -90,6 +91,7 @@ row_of history_full = (63, codes "HistoryFull")
 row_of nothing_to_undo = (64, codes "NothingToUndo")
 row_of nothing_to_redo = (65, codes "NothingToRedo")
 row_of command_shape = (66, codes "CommandShape")
+row_of no_subresource = (67, codes "NoSubresource")
 row_of bench_text = (70, codes "BenchText")
 row_of record_does_not_fit = (71, codes "RecordDoesNotFit")
 row_of io = (72, codes "Io")
@@ -147,6 +149,7 @@ fault_code answer.identity_fault = identity
 fault_code answer.managed_fields_given = managed_fields_given
 fault_code (answer.entry_fault f) = entry_fault_code f
 fault_code answer.manager_name = manager_name
+fault_code answer.no_subresource = no_subresource
 fault_code answer.history_full = history_full
 fault_code answer.nothing_to_undo = nothing_to_undo
 fault_code answer.nothing_to_redo = nothing_to_redo

@@ -12,7 +12,7 @@ use Rattle.ssa_model.specs.definitions.Readings.{Readings}
 use Rattle.ssa_model.specs.definitions.ElementTexts.{ElementFault}
 use Rattle.ssa_model.specs.definitions.FieldsV1.{fields_faults, said_set}
 use Rattle.ssa_model.specs.definitions.History.{is_manager_name}
-use Rattle.ssa_model.specs.definitions.Commands.{text_in, value_in}
+use Rattle.ssa_model.specs.definitions.Commands.{text_in, value_in, is_subresource, subresource_in}
 
 pub data EntryFault : Type 0 where
   -- the 65th entry
@@ -34,7 +34,8 @@ abbrev pub entry_texts : List Text
 entry_texts = codes "apiVersion" ∷ codes "fieldsType" ∷ codes "manager" ∷ codes "operation" ∷ codes "time" ∷ []
 
 abbrev pub is_entry_member : Text → Json → Bool
-is_entry_member n v = same_text n (codes "fieldsV1") || (list_any (same_text n) entry_texts && is_text v)
+is_entry_member n v =
+    same_text n (codes "fieldsV1") || ((list_any (same_text n) entry_texts && is_text v) || (same_text n (codes "subresource") && is_subresource v))
 
 abbrev pub are_entry_members : Members → Bool
 are_entry_members no_members = true
@@ -46,7 +47,7 @@ operation_of t = if same_text t (codes "Apply") then Some applies else (if same_
 abbrev pub text_at : Text → Members → Text
 text_at n ms = text_in (member_of n ms)
 
--- exactly the members of an entry, of the type FieldsV1, with one of the operations
+-- exactly the members of an entry, of the type FieldsV1, with one of the operations, and with the subresource where there is one
 abbrev pub is_entry : Members → Bool
 is_entry ms =
     are_entry_members ms && (list_all (λ n. has_member n ms) (codes "fieldsV1" ∷ entry_texts)
@@ -74,7 +75,7 @@ module _ (readings : Readings) where
   -- what an entry says
   abbrev pub said_entry : Members → Entry
   said_entry ms = record {
-    manager = record { name = text_at (codes "manager") ms; operation = operation_in ms };
+    manager = record { name = text_at (codes "manager") ms; operation = operation_in ms; part = subresource_in (member_of (codes "subresource") ms) };
     owned = said_set readings.value (fields_in ms);
     moment = text_at (codes "time") ms;
   }

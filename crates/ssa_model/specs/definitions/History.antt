@@ -5,11 +5,14 @@ use Rattle.ssa_model.specs.definitions.Json.{Text}
 use Rattle.ssa_model.specs.definitions.Limits.{most_name_bytes}
 use Rattle.ssa_model.specs.definitions.Schema.{Schema}
 use Rattle.ssa_model.specs.definitions.Objects.{Identity}
+use Rattle.ssa_model.specs.definitions.Parts.{Actor}
 use Rattle.ssa_model.specs.definitions.Operations.{State}
 
 pub data Label : Type 0 where
-  applied : Text → Bool → Text → Label
-  updated : Text → Text → Label
+  -- who, force, moment
+  applied : Actor → Bool → Text → Label
+  -- who, moment
+  updated : Actor → Text → Label
   stripped : Label
 
 -- a state after the first, and the command that made it

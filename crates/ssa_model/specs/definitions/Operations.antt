@@ -5,16 +5,17 @@ use Rattle.ssa_model.specs.definitions.Json.{Text}
 use Rattle.ssa_model.specs.definitions.Path.{is_root, is_key_field}
 use Rattle.ssa_model.specs.definitions.PathMap.{PathSet, has, paths, size, set_of, union, minus, is_empty, has_at_or_below, has_at_or_above}
 use Rattle.ssa_model.specs.definitions.Body.{Body, points, over, restricted, added, modified, removed}
+use Rattle.ssa_model.specs.definitions.Parts.{is_path_of, part_of, spliced}
 use Rattle.ssa_model.specs.definitions.Table.{ManagerKey, Entry, Table, owned_by, owned_by_others, same_manager, seat}
 
 pub record State : Type 0 where
   pub body : Body
   pub table : Table
 
--- the paths of a that the configuration leaves out and that nobody else needs
+-- the paths of a in its part that the configuration leaves out and that nobody else needs
 abbrev pub dropped : State → ManagerKey → Body → PathSet
 dropped state a config =
-    set_of (paths (owned_by state.table a)) (λ g. not (has config g) && (not (is_key_field g) && not (has_at_or_below (owned_by_others state.table a) g)))
+    set_of (paths (owned_by state.table a)) (λ g. is_path_of a.part g && (not (has config g) && (not (is_key_field g) && not (has_at_or_below (owned_by_others state.table a) g))))
 
 -- the paths that an Apply keeps, themselves or by a path below
 abbrev pub kept : State → ManagerKey → Body → PathSet
@@ -52,12 +53,16 @@ is_none (x ∷ xs) = false
 abbrev pub if_seated : State → Result State Refusal
 if_seated state = if nat_lt most_managers (length state.table) then Err too_many_managers else Ok state
 
--- the state to which an Apply would lead
+-- the paths of a outside its part
+abbrev pub owned_outside : Table → ManagerKey → PathSet
+owned_outside table a = set_of (paths (owned_by table a)) (λ p. not (is_path_of a.part p))
+
+-- the state to which an Apply of a configuration of its part would lead
 abbrev pub apply_target : State → ManagerKey → Body → Text → State
 apply_target state a config at =
     let body = pruned state a config in
     let changed = modified state.body body in
-    record { body = body; table = seat state.table a (points config) changed changed at }
+    record { body = body; table = seat state.table a (union (points config) (owned_outside state.table a)) changed changed at }
 
 -- the state, or the first refusal: clashes that aren't forced, too many paths, too many managers
 abbrev pub decided : Bool → List Clash → State → Result State Refusal
@@ -65,13 +70,17 @@ decided force clash target =
     if not (force || is_none clash) then Err (conflict clash)
     else (if nat_lt most_places (size target.body) then Err too_many_paths else if_seated target)
 
--- the state after an Apply
-abbrev pub apply : State → ManagerKey → Body → Bool → Text → Result State Refusal
-apply state a config force at =
+-- the state after an Apply of a configuration of the manager's part
+abbrev pub apply_part : State → ManagerKey → Body → Bool → Text → Result State Refusal
+apply_part state a config force at =
     let target = apply_target state a config at in
     decided force (clashes a (modified state.body target.body) state.table) target
 
--- the state to which an Update would lead
+-- the state after an Apply; of the configuration counts what it has in the manager's part
+abbrev pub apply : State → ManagerKey → Body → Bool → Text → Result State Refusal
+apply state a config force at = apply_part state a (part_of a.part config) force at
+
+-- the state to which an Update to a body would lead
 abbrev pub update_target : State → ManagerKey → Body → Text → State
 update_target state u object at =
     let changed = modified state.body object in
@@ -79,9 +88,13 @@ update_target state u object at =
     let owned = union (minus (owned_by state.table u) gone) (union changed (added state.body object)) in
     record { body = object; table = seat state.table u owned (union changed gone) changed at }
 
--- the state after an Update
+-- the state after an Update to a body
+abbrev pub update_to : State → ManagerKey → Body → Text → Result State Refusal
+update_to state u body at = decided true [] (update_target state u body at)
+
+-- the state after an Update: outside the manager's part the body stays
 abbrev pub update : State → ManagerKey → Body → Text → Result State Refusal
-update state u object at = if_seated (update_target state u object at)
+update state u object at = update_to state u (spliced u.part object state.body) at
 
 abbrev pub strip : State → State
 strip state = record { body = state.body; table = [] }

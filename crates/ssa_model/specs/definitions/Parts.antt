@@ -1,5 +1,6 @@
 -- The parts of an object: what is at and below the root's field `status`, which commands reach through the subresource of that name, and all else.
 use Rattle.std.specs.Prelude.{[], ◌∷◌, ◌++◌, Bool, true, false, not, ◌||◌, if◌then◌else◌, codes}
+use Rattle.ssa_model.specs.definitions.Json.{Text}
 use Rattle.ssa_model.specs.definitions.Path.{field, Path, under, is_root}
 use Rattle.ssa_model.specs.definitions.PathMap.{get, paths, map_of}
 use Rattle.ssa_model.specs.definitions.Body.{Body, restricted}
@@ -12,6 +13,11 @@ abbrev pub same_part : Subresource → Subresource → Bool
 same_part main main = true
 same_part status status = true
 same_part _ _ = false
+
+-- who acts, and through which subresource
+pub record Actor : Type 0 where
+  pub name : Text
+  pub part : Subresource
 
 abbrev pub status_path : Path
 status_path = field (codes "status") ∷ []

@@ -13,7 +13,7 @@ use Rattle.ssa_model.specs.definitions.Objects.{members_of_value}
 use Rattle.ssa_model.specs.definitions.Readings.{Readings}
 use Rattle.ssa_model.specs.definitions.ElementTexts.{element_of, path_of}
 use Rattle.ssa_model.specs.definitions.FieldsV1.{fields_faults, said_set}
-use Rattle.ssa_model.specs.definitions.Commands.{text_in, texts_in, value_in}
+use Rattle.ssa_model.specs.definitions.Commands.{text_in, texts_in, value_in, is_subresource, subresource_in}
 use Rattle.ssa_model.specs.definitions.GivenEntries.{operation_of, said_entry}
 use Rattle.ssa_model.specs.definitions.Fitting.{Place, of_kind, item_of, value_of, place_at}
 use Rattle.ssa_model.specs.definitions.Valid.{AllEntries}
@@ -75,9 +75,9 @@ is_whole _ = false
 abbrev pub is_operation : Test
 is_operation v = is_some (option_and_then operation_of (as_text v))
 
--- a manager, as its name and its operation
+-- a manager, as its name and its operation, and its subresource where it has one
 abbrev pub is_key : Test
-is_key = has_items (is_text ∷ is_operation ∷ [])
+is_key v = has_items (is_text ∷ is_operation ∷ []) v || has_items (is_text ∷ is_operation ∷ is_subresource ∷ []) v
 
 -- ---- what a value says, whatever its shape
 
@@ -119,7 +119,7 @@ abbrev pub operation_at : Option Json → Operation
 operation_at v = operation_or_applies (operation_of (text_in v))
 
 abbrev pub key_in : Json → ManagerKey
-key_in v = record { name = text_in (item_at 0 v); operation = operation_at (item_at 1 v) }
+key_in v = record { name = text_in (item_at 0 v); operation = operation_at (item_at 1 v); part = subresource_in (item_at 2 v) }
 
 -- the content of a leaf at a place
 abbrev pub content_in : Option Place → Json → Content
@@ -168,13 +168,14 @@ module _ (readings : Readings) where
   abbrev pub change_shape : List MemberShape
   change_shape =
       must_have (codes "gain") is_fields ∷ must_have (codes "lose") is_fields ∷ must_have (codes "manager") is_text
-      ∷ must_have (codes "operation") is_operation ∷ may_have (codes "time") is_moment ∷ []
+      ∷ must_have (codes "operation") is_operation ∷ may_have (codes "subresource") is_subresource ∷ may_have (codes "time") is_moment ∷ []
 
   -- an entry of `managedFields`; that its `apiVersion`, its `fieldsType` and its name are those of an entry of the state is no matter of shape
   abbrev pub entry_shape : List MemberShape
   entry_shape =
       must_have (codes "apiVersion") is_text ∷ must_have (codes "fieldsType") is_text ∷ must_have (codes "fieldsV1") is_fields
-      ∷ must_have (codes "manager") is_text ∷ must_have (codes "operation") is_operation ∷ must_have (codes "time") is_moment ∷ []
+      ∷ must_have (codes "manager") is_text ∷ must_have (codes "operation") is_operation ∷ may_have (codes "subresource") is_subresource
+      ∷ must_have (codes "time") is_moment ∷ []
 
   abbrev pub here_shape : List MemberShape
   here_shape = must_have (codes "entry") (has_members entry_shape) ∷ must_have (codes "place") is_whole ∷ []
@@ -201,7 +202,11 @@ module _ (readings : Readings) where
 
   abbrev pub change_in : Json → Change
   change_in v = record {
-    manager = record { name = text_at (codes "manager") v; operation = operation_at (member_at (codes "operation") v) };
+    manager = record {
+      name = text_at (codes "manager") v;
+      operation = operation_at (member_at (codes "operation") v);
+      part = subresource_in (member_at (codes "subresource") v);
+    };
     gain = said_set readings.value (member_in (codes "gain") v);
     lose = said_set readings.value (member_in (codes "lose") v);
     moment = option_and_then as_text (member_at (codes "time") v);

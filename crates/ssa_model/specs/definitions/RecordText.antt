@@ -5,10 +5,11 @@ use Rattle.ssa_model.specs.definitions.Path.{Element, Path, element_text}
 use Rattle.ssa_model.specs.definitions.PathMap.{get}
 use Rattle.ssa_model.specs.definitions.Kind.{Kind}
 use Rattle.ssa_model.specs.definitions.Body.{Content, Body}
+use Rattle.ssa_model.specs.definitions.Parts.{Subresource, main, status}
 use Rattle.ssa_model.specs.definitions.Table.{ManagerKey, Entry}
 use Rattle.ssa_model.specs.definitions.Objects.{content_value, shown, shown_fields}
 use Rattle.ssa_model.specs.definitions.FieldsV1.{fields_json}
-use Rattle.ssa_model.specs.definitions.Entries.{operation_text, text_json, entry_json}
+use Rattle.ssa_model.specs.definitions.Entries.{operation_text, text_json, part_members, entry_json}
 use Rattle.ssa_model.specs.definitions.Replies.{number_json, list_json, path_json, paths_json}
 use Rattle.ssa_model.specs.definitions.Fitting.{Place, of_kind, item_of, value_of, place_at}
 use Rattle.ssa_model.specs.definitions.Record.{Change, Part, Record}
@@ -45,10 +46,14 @@ change_json c =
     object (member (codes "gain") (fields_json c.gain)
     (member (codes "lose") (fields_json c.lose)
     (member (codes "manager") (text_json c.manager.name)
-    (member (codes "operation") (text_json (operation_text c.manager.operation)) (time_members c.moment)))))
+    (member (codes "operation") (text_json (operation_text c.manager.operation)) (part_members c.manager.part (time_members c.moment))))))
+
+abbrev pub part_items : Subresource → Items
+part_items main = no_items
+part_items status = item (text_json (codes "status")) no_items
 
 abbrev pub gone_json : ManagerKey → Json
-gone_json k = list (item (text_json k.name) (item (text_json (operation_text k.operation)) no_items))
+gone_json k = list (item (text_json k.name) (item (text_json (operation_text k.operation)) (part_items k.part)))
 
 -- the entry is written as one of `managedFields`
 abbrev pub here_json : Json → ℕ × Entry → Json

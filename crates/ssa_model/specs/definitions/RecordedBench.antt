@@ -43,12 +43,15 @@ past_steps t = take t.place t.later
 abbrev pub future_steps : Timeline → List Step
 future_steps t = drop t.place t.later
 
--- the head, the schema, the present object, the past from the latest command on, and the future
-abbrev pub recorded_values : Bench → List Json
-recorded_values bench =
+-- the schema, the present object, the past from the latest command on, and the future
+abbrev pub recorded_lines : Bench → List Json
+recorded_lines bench =
     let t = bench.timeline in
-    record_head (past_len t) (future_len t) ∷ bench.schema.source ∷ whole_object bench (present t)
-    ∷ past_lines bench t.first (past_steps t) ++ future_lines bench (present t) (future_steps t)
+    bench.schema.source ∷ whole_object bench (present t) ∷ past_lines bench t.first (past_steps t) ++ future_lines bench (present t) (future_steps t)
+
+-- with the head before them
+abbrev pub recorded_values : Bench → List Json
+recorded_values bench = record_head (past_len bench.timeline) (future_len bench.timeline) ∷ recorded_lines bench
 
 abbrev pub recorded_text : Bench → Text
 recorded_text bench = flat_map line (recorded_values bench)

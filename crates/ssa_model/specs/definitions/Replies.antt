@@ -5,7 +5,7 @@ use Rattle.ssa_model.specs.definitions.Path.{Path, element_text}
 use Rattle.ssa_model.specs.definitions.PathMap.{PathSet, paths}
 use Rattle.ssa_model.specs.definitions.Table.{ManagerKey}
 use Rattle.ssa_model.specs.definitions.Operations.{Clash, Refusal, conflict}
-use Rattle.ssa_model.specs.definitions.Entries.{operation_text, text_json}
+use Rattle.ssa_model.specs.definitions.Entries.{operation_text, text_json, part_members}
 use Rattle.ssa_model.specs.definitions.History.{Label, applied, updated, stripped}
 use Rattle.ssa_model.specs.definitions.GivenEntries.{EntryFault, absent_path}
 use Rattle.ssa_model.specs.definitions.Answers.{Fault, body_fault, entry_fault, refused, Reply, changed, moved, shown, owned_by, logged, fault, Changed}
@@ -29,7 +29,9 @@ abbrev pub paths_json : PathSet → Json
 paths_json s = list_json path_json (paths s)
 
 abbrev pub key_json : ManagerKey → Json
-key_json k = object (member (codes "manager") (text_json k.name) (member (codes "operation") (text_json (operation_text k.operation)) no_members))
+key_json k =
+    object (member (codes "manager") (text_json k.name)
+    (member (codes "operation") (text_json (operation_text k.operation)) (part_members k.part no_members)))
 
 -- ---- faults
 
@@ -45,7 +47,8 @@ fault_json_at c p = object (with_fault c (member (codes "path") (path_json p) no
 abbrev pub clash_json : Clash → Json
 clash_json c =
     object (member (codes "fields") (paths_json c.fields)
-    (member (codes "manager") (text_json c.manager.name) (member (codes "operation") (text_json (operation_text c.manager.operation)) no_members)))
+    (member (codes "manager") (text_json c.manager.name)
+    (member (codes "operation") (text_json (operation_text c.manager.operation)) (part_members c.manager.part no_members))))
 
 abbrev pub refusal_json : Refusal → Json
 refusal_json (conflict cs) = object (member (codes "conflicts") (list_json clash_json cs) (with_fault (refusal_code (conflict cs)) no_members))
@@ -78,9 +81,10 @@ moved_json word past future =
 abbrev pub label_json : Label → Json
 label_json (applied who force at) =
     object (member (codes "at") (text_json at) (member (codes "do") (text_json (codes "apply"))
-    (member (codes "force") (scalar (truth force)) (member (codes "manager") (text_json who) no_members))))
+    (member (codes "force") (scalar (truth force)) (member (codes "manager") (text_json who.name) (part_members who.part no_members)))))
 label_json (updated who at) =
-    object (member (codes "at") (text_json at) (member (codes "do") (text_json (codes "update")) (member (codes "manager") (text_json who) no_members)))
+    object (member (codes "at") (text_json at) (member (codes "do") (text_json (codes "update"))
+    (member (codes "manager") (text_json who.name) (part_members who.part no_members))))
 label_json stripped = object (member (codes "do") (text_json (codes "strip")) no_members)
 
 abbrev pub reply_json : Reply → Json

@@ -5,6 +5,7 @@ use Rattle.ssa_model.specs.definitions.Limits.{most_input_bytes}
 use Rattle.ssa_model.specs.definitions.Json.{Text, Json, object, no_members, member, compact}
 use Rattle.ssa_model.specs.definitions.Schema.{list_of_texts}
 use Rattle.ssa_model.specs.definitions.PathMap.{size}
+use Rattle.ssa_model.specs.definitions.Parts.{Actor}
 use Rattle.ssa_model.specs.definitions.Readings.{Readings}
 use Rattle.ssa_model.specs.definitions.History.{Bench, present}
 use Rattle.ssa_model.specs.definitions.Commands as given
@@ -18,10 +19,10 @@ use Rattle.ssa_model.specs.definitions.Entries.{text_json}
 
 -- A subcommand on a bench, with the bytes of the file that it names.
 pub data Asked : Type 0 where
-  -- manager, force, moment, bytes of the object's file
-  apply : Text → Bool → Text → Text → Asked
-  -- manager, moment, bytes of the object's file
-  update : Text → Text → Text → Asked
+  -- who, force, moment, bytes of the object's file
+  apply : Actor → Bool → Text → Text → Asked
+  -- who, moment, bytes of the object's file
+  update : Actor → Text → Text → Asked
   strip : Asked
   undo : Asked
   redo : Asked

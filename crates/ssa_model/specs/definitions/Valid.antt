@@ -83,8 +83,8 @@ KeepsOrders s [] = Unit {0}
 KeepsOrders s (t ∷ ts) = KeepsOrder s.table t.state.table × KeepsOrders t.state ts
 
 abbrev pub is_named : Label → Bool
-is_named (applied who force at) = is_manager_name who
-is_named (updated who at) = is_manager_name who
+is_named (applied who force at) = is_manager_name who.name
+is_named (updated who at) = is_manager_name who.name
 is_named stripped = true
 
 abbrev pub MakesNamed : Step → Type 0

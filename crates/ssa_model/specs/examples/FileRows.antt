@@ -4,6 +4,7 @@ use Rattle.std.specs.Cmp.Lexicographic.{pointwise}
 use Rattle.ssa_model.specs.definitions.Json.{Text, Json, object, no_members, compact, same_text, same_json}
 use Rattle.ssa_model.specs.definitions.Readings.{Readings, ReadFault, not_json}
 use Rattle.ssa_model.specs.definitions.Body.{Body, flat}
+use Rattle.ssa_model.specs.definitions.Parts.{main}
 use Rattle.ssa_model.specs.definitions.Table.{applies, ManagerKey, Table}
 use Rattle.ssa_model.specs.definitions.Objects.{body_value}
 use Rattle.ssa_model.specs.definitions.Operations.{apply_target}
@@ -11,7 +12,7 @@ use Rattle.ssa_model.specs.definitions.History.{Label, applied, updated, strippe
 use Rattle.ssa_model.specs.definitions.Answers.{Command, apply, undo, run}
 use Rattle.ssa_model.specs.definitions.BenchText.{line, head_of, head_json, state_json, first_json, step_json, bench_values, bench_text}
 use Rattle.ssa_model.specs.laws.BenchFiles.{values_bench, bench_in}
-use Rattle.ssa_model.specs.examples.Sample.{sample_kind, sample_schema}
+use Rattle.ssa_model.specs.examples.Sample.{main_by, sample_kind, sample_schema}
 use Rattle.ssa_model.specs.examples.Rows.{new_bench, with_replicas, m1, m2}
 use Rattle.ssa_model.specs.examples.EntryRows.{with_uid}
 
@@ -29,7 +30,7 @@ abbrev pub after : List Command → Bench
 after cs = (run new_bench cs).1
 
 abbrev pub one_apply : Command
-one_apply = apply m1 false (codes "2024-05-01T10:00:01Z") (with_replicas 3)
+one_apply = apply (main_by m1) false (codes "2024-05-01T10:00:01Z") (with_replicas 3)
 
 -- a new bench, one after a command, and that bench after an undo
 abbrev pub BenchesAreWritten : Type 0
@@ -55,7 +56,7 @@ undone = after (one_apply ∷ undo ∷ [])
 -- after two managers' applies, and then a step with this label and table
 abbrev pub third : Label → (Table → Table) → Bench
 third label change =
-    let bench = after (one_apply ∷ apply m2 false (codes "2024-05-01T10:00:01Z") (with_replicas 3) ∷ []) in
+    let bench = after (one_apply ∷ apply (main_by m2) false (codes "2024-05-01T10:00:01Z") (with_replicas 3) ∷ []) in
     let now = present bench.timeline in
     let last : Step = record { label = label; state = record { body = now.body; table = change now.table } } in
     with_timeline bench (record { first = bench.timeline.first; later = bench.timeline.later ++ last ∷ []; place = 1 })
@@ -86,7 +87,7 @@ WrongFilesAreRefused =
     × (taken_values (with_parts (head_of 0 2) (first_json undone) []) ≡ None)
     × (taken_values (with_parts (head_of 0 1) (first_json undone) undone_later) ≡ None)
     × (taken_values (with_parts (head_of 0 2) (state_json (object no_members) with_uid) undone_later) ≡ None)
-    × (taken_values (bench_values (third (updated m1 (codes "t1")) (λ t. t))) ≡ None)
+    × (taken_values (bench_values (third (updated (main_by m1) (codes "t1")) (λ t. t))) ≡ None)
     × (taken_values (bench_values (third stripped swapped)) ≡ None)
 
 -- ---- a bench file
@@ -100,7 +101,7 @@ abbrev pub readings_of : List Json → Readings
 readings_of vs = record { value = value_among vs; moment = file_readings.moment }
 
 abbrev pub m1_applies : ManagerKey
-m1_applies = record { name = m1; operation = applies }
+m1_applies = record { name = m1; operation = applies; part = main }
 
 abbrev pub three_replicas : Body
 three_replicas = flat sample_kind (body_value (with_replicas 3))
@@ -108,7 +109,7 @@ three_replicas = flat sample_kind (body_value (with_replicas 3))
 abbrev pub applied_step : Step
 applied_step =
     let at = codes "2024-05-01T10:00:01Z" in
-    record { label = applied m1 false at; state = apply_target new_bench.timeline.first m1_applies three_replicas at }
+    record { label = applied (main_by m1) false at; state = apply_target new_bench.timeline.first m1_applies three_replicas at }
 
 -- the step is undone
 abbrev pub filed : Bench

@@ -4,6 +4,7 @@ use Rattle.ssa_model.specs.definitions.Json.{Json, text, whole, no_items, item}
 use Rattle.ssa_model.specs.definitions.Path.{Element, field, key, Path}
 use Rattle.ssa_model.specs.definitions.PathMap.{empty, insert, listed}
 use Rattle.ssa_model.specs.definitions.Body.{leaf, flat}
+use Rattle.ssa_model.specs.definitions.Parts.{main}
 use Rattle.ssa_model.specs.definitions.Table.{applies}
 use Rattle.ssa_model.specs.definitions.Operations.{State}
 use Rattle.ssa_model.specs.definitions.Objects.{body_value}
@@ -105,5 +106,5 @@ CutNothingMisfits = BodyMisfits (record { cut = listed (ports_path ∷ []); leav
 -- a manager that is none of the table's, gone
 abbrev pub GoneNobodyMisfits : Type 0
 GoneNobodyMisfits =
-    RecordFits sample_kind (record { body = no_change; table = record { changed = []; gone = record { name = m2; operation = applies } ∷ []; here = [] } })
+    RecordFits sample_kind (record { body = no_change; table = record { changed = []; gone = record { name = m2; operation = applies; part = main } ∷ []; here = [] } })
     applied → ⊥

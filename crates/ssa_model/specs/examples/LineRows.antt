@@ -5,7 +5,7 @@ use Rattle.ssa_model.specs.definitions.History.{Bench, applied, present, with_ti
 use Rattle.ssa_model.specs.definitions.Answers.{run}
 use Rattle.ssa_model.specs.definitions.Readings.{ReadFault, Readings, not_json, null_value, number_outside}
 use Rattle.ssa_model.specs.definitions.Session.{line_answer}
-use Rattle.ssa_model.specs.examples.Sample.{string_json, number_json}
+use Rattle.ssa_model.specs.examples.Sample.{main_by, string_json, number_json}
 use Rattle.ssa_model.specs.examples.Rows.{bare_object, m1, new_bench, object_with, sample_object, shared, with_ports, with_replicas}
 use Rattle.ssa_model.specs.examples.MoreRows.{texts_json, with_hosts}
 
@@ -79,7 +79,7 @@ abbrev pub with_past : ℕ → Bench
 with_past n =
     with_timeline new_bench (record {
       first = present new_bench.timeline;
-      later = times n (record { label = applied m1 false (codes "t1"); state = present new_bench.timeline });
+      later = times n (record { label = applied (main_by m1) false (codes "t1"); state = present new_bench.timeline });
       place = n;
     })
 

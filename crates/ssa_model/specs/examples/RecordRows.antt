@@ -4,6 +4,7 @@ use Rattle.ssa_model.specs.definitions.Json.{Text, text, compact, no_items, item
 use Rattle.ssa_model.specs.definitions.Path.{Path, field, value, element_text}
 use Rattle.ssa_model.specs.definitions.PathMap.{paths, listed}
 use Rattle.ssa_model.specs.definitions.Body.{flat}
+use Rattle.ssa_model.specs.definitions.Parts.{main}
 use Rattle.ssa_model.specs.definitions.Table.{applies}
 use Rattle.ssa_model.specs.definitions.Objects.{body_value}
 use Rattle.ssa_model.specs.definitions.Operations.{State}
@@ -13,7 +14,7 @@ use Rattle.ssa_model.specs.definitions.Valid.{IsValidState, KeepsOrder}
 use Rattle.ssa_model.specs.definitions.Record.{Record, record_of}
 use Rattle.ssa_model.specs.definitions.Facts.{record_size, facts}
 use Rattle.ssa_model.specs.definitions.RecordText.{record_json}
-use Rattle.ssa_model.specs.examples.Sample.{sample_kind, string_json, port}
+use Rattle.ssa_model.specs.examples.Sample.{main_by, sample_kind, string_json, port}
 use Rattle.ssa_model.specs.examples.Rows.{new_bench, shared, with_replicas, with_ports, bare_object, m1, m2, abc, port_texts}
 use Rattle.ssa_model.specs.examples.MoreRows.{three_managers, host_updates, led_hosts, with_hosts}
 use Rattle.ssa_model.specs.examples.FileRows.{applied_step}
@@ -33,52 +34,52 @@ abbrev pub LastCommand : List Command → Command → ℕ → ℕ → Type 0
 LastCommand cs c back forth = Sizes (state_after cs) (state_after (cs ++ c ∷ [])) back forth
 
 abbrev pub first_apply : Command
-first_apply = apply m1 false (codes "t1") (with_replicas 3)
+first_apply = apply (main_by m1) false (codes "t1") (with_replicas 3)
 
 abbrev pub FirstApplyRecord : Type 0
 FirstApplyRecord = LastCommand [] first_apply 2 4
 
 -- a manager that is gone comes back to its place, and a moment comes back
 abbrev pub ForcedRecord : Type 0
-ForcedRecord = LastCommand shared (apply m1 true (codes "t4") (with_replicas 5)) 4 3
+ForcedRecord = LastCommand shared (apply (main_by m1) true (codes "t4") (with_replicas 5)) 4 3
 
 abbrev pub GivenUpRecord : Type 0
-GivenUpRecord = LastCommand (shared ++ apply m1 false (codes "t3") bare_object ∷ []) (apply m2 false (codes "t4") bare_object) 4 2
+GivenUpRecord = LastCommand (shared ++ apply (main_by m1) false (codes "t3") bare_object ∷ []) (apply (main_by m2) false (codes "t4") bare_object) 4 2
 
 abbrev pub ports_applied : List Command
-ports_applied = apply m1 false (codes "t1") (with_ports abc) ∷ []
+ports_applied = apply (main_by m1) false (codes "t1") (with_ports abc) ∷ []
 
 abbrev pub without_b : Command
-without_b = update (codes "u") (codes "t2") (with_ports (item (port (codes "a") 1) (item (port (codes "c") 3) no_items)))
+without_b = update (main_by (codes "u")) (codes "t2") (with_ports (item (port (codes "a") 1) (item (port (codes "c") 3) no_items)))
 
 -- an item comes back to its place
 abbrev pub RemovedItemRecord : Type 0
 RemovedItemRecord = LastCommand ports_applied without_b 6 4
 
 abbrev pub reorder : Command
-reorder = update (codes "u") (codes "t2") (with_ports (item (port (codes "c") 3) (item (port (codes "b") 2) (item (port (codes "a") 1) no_items))))
+reorder = update (main_by (codes "u")) (codes "t2") (with_ports (item (port (codes "c") 3) (item (port (codes "b") 2) (item (port (codes "a") 1) no_items))))
 
 abbrev pub ReorderRecord : Type 0
 ReorderRecord = LastCommand ports_applied reorder 3 3
 
 abbrev pub RepeatRecord : Type 0
-RepeatRecord = LastCommand (first_apply ∷ []) (apply m1 false (codes "t9") (with_replicas 3)) 0 0
+RepeatRecord = LastCommand (first_apply ∷ []) (apply (main_by m1) false (codes "t9") (with_replicas 3)) 0 0
 
 abbrev pub StripRecord : Type 0
 StripRecord = LastCommand three_managers strip 6 3
 
 -- the list stays, and its items go
 abbrev pub SetEmptiedRecord : Type 0
-SetEmptiedRecord = LastCommand (take 1 host_updates) (update (codes "u") (codes "t2") (with_hosts [])) 5 3
+SetEmptiedRecord = LastCommand (take 1 host_updates) (update (main_by (codes "u")) (codes "t2") (with_hosts [])) 5 3
 
 -- and other items come
 abbrev pub SetFilledRecord : Type 0
-SetFilledRecord = LastCommand (take 2 host_updates) (update (codes "u") (codes "t3") (with_hosts (codes "a" ∷ codes "c" ∷ codes "b" ∷ []))) 4 7
+SetFilledRecord = LastCommand (take 2 host_updates) (update (main_by (codes "u")) (codes "t3") (with_hosts (codes "a" ∷ codes "c" ∷ codes "b" ∷ []))) 4 7
 
 abbrev pub LiveItemsRecord : Type 0
 LiveItemsRecord =
-    LastCommand (update (codes "u") (codes "t1") (with_ports (item (port (codes "a") 1) (item (port (codes "b") 2) no_items))) ∷ [])
-    (apply m1 false (codes "t2") (with_ports (item (port (codes "c") 3) (item (port (codes "a") 1) no_items)))) 2 10
+    LastCommand (update (main_by (codes "u")) (codes "t1") (with_ports (item (port (codes "a") 1) (item (port (codes "b") 2) no_items))) ∷ [])
+    (apply (main_by m1) false (codes "t2") (with_ports (item (port (codes "c") 3) (item (port (codes "a") 1) no_items)))) 2 10
 
 -- ---- items that come and go in a list whose order changes
 
@@ -92,7 +93,7 @@ abbrev pub hosts_led : State
 hosts_led = record {
   body = flat sample_kind (body_value (with_hosts (codes "d" ∷ codes "b" ∷ codes "c" ∷ codes "a" ∷ codes "x" ∷ [])));
   table = record {
-    manager = record { name = m1; operation = applies };
+    manager = record { name = m1; operation = applies; part = main };
     owned = listed (host_path (codes "a") ∷ host_path (codes "d") ∷ host_path (codes "x") ∷ []);
     moment = codes "t2";
   } ∷ [];
@@ -103,7 +104,7 @@ LedRecord = Sizes four_hosts hosts_led 6 10
 
 -- they are the states before and after such a command
 abbrev pub LedByCommand : Type 0
-LedByCommand = LastCommand (take 1 led_hosts) (apply m1 false (codes "t2") (with_hosts (codes "d" ∷ codes "x" ∷ codes "a" ∷ []))) 6 10
+LedByCommand = LastCommand (take 1 led_hosts) (apply (main_by m1) false (codes "t2") (with_hosts (codes "d" ∷ codes "x" ∷ codes "a" ∷ []))) 6 10
 
 -- ---- what is put
 
@@ -119,7 +120,7 @@ RemovedItemPlace =
 -- ---- in how many facts the states differ
 
 abbrev pub ForcedFacts : Type 0
-ForcedFacts = facts (state_after shared) (state_after (shared ++ apply m1 true (codes "t4") (with_replicas 5) ∷ [])) ≡ 4
+ForcedFacts = facts (state_after shared) (state_after (shared ++ apply (main_by m1) true (codes "t4") (with_replicas 5) ∷ [])) ≡ 4
 
 -- the items of a list in another order count in both states
 abbrev pub ReorderFacts : Type 0
@@ -134,13 +135,13 @@ abbrev pub record_text : State → State → Text
 record_text v w = compact (record_json (string_json (codes "example.com/v1")) sample_kind (record_of v w))
 
 abbrev pub first_applied : List Command
-first_applied = apply m1 false (codes "2024-05-01T10:00:01Z") (with_replicas 3) ∷ []
+first_applied = apply (main_by m1) false (codes "2024-05-01T10:00:01Z") (with_replicas 3) ∷ []
 
 abbrev pub both_applied : List Command
-both_applied = first_applied ++ apply m2 false (codes "2024-05-01T10:00:02Z") (with_replicas 3) ∷ []
+both_applied = first_applied ++ apply (main_by m2) false (codes "2024-05-01T10:00:02Z") (with_replicas 3) ∷ []
 
 abbrev pub forced : Command
-forced = apply m1 true (codes "2024-05-01T10:00:04Z") (with_replicas 5)
+forced = apply (main_by m1) true (codes "2024-05-01T10:00:04Z") (with_replicas 5)
 
 abbrev pub FirstApplyText : Type 0
 FirstApplyText =

@@ -14,7 +14,7 @@ use Rattle.ssa_model.specs.definitions.FieldsV1.{fields_faults, said_paths, says
 use Rattle.ssa_model.specs.definitions.MemberNames.{has_distinct_names}
 use Rattle.ssa_model.specs.definitions.Readings.{ReadFault}
 use Rattle.ssa_model.specs.definitions.Valid.{IsRooted}
-use Rattle.ssa_model.specs.examples.Sample.{sample_kind, sample_schema, string_json, number_json, replicas_path, port}
+use Rattle.ssa_model.specs.examples.Sample.{main_by, sample_kind, sample_schema, string_json, number_json, replicas_path, port}
 
 abbrev pub sample_object : Members → Members → Json
 sample_object metadata others =
@@ -96,29 +96,29 @@ abbrev pub replicas_texts : List Text
 replicas_texts = codes "f:spec" ∷ codes "f:replicas" ∷ []
 
 abbrev pub FirstApply : Type 0
-FirstApply = replies (apply m1 false (codes "t1") (with_replicas 3) ∷ []) ≡ done (replicas_texts ∷ []) 1 [] [] ∷ []
+FirstApply = replies (apply (main_by m1) false (codes "t1") (with_replicas 3) ∷ []) ≡ done (replicas_texts ∷ []) 1 [] [] ∷ []
 
 abbrev pub shared : List Command
-shared = apply m1 false (codes "t1") (with_replicas 3) ∷ apply m2 false (codes "t2") (with_replicas 3) ∷ []
+shared = apply (main_by m1) false (codes "t1") (with_replicas 3) ∷ apply (main_by m2) false (codes "t2") (with_replicas 3) ∷ []
 
 abbrev pub SharedOwnership : Type 0
 SharedOwnership = replies (shared ++ owners replicas_path ∷ []) ≡ done (replicas_texts ∷ []) 1 [] [] ∷ done [] 2 [] [] ∷ owned (m1 ∷ m2 ∷ []) ∷ []
 
 abbrev pub ConflictNamesOwner : Type 0
-ConflictNamesOwner = replies (shared ++ apply m1 false (codes "t3") (with_replicas 5) ∷ []) ≡ done (replicas_texts ∷ []) 1 [] [] ∷ done [] 2 [] []
+ConflictNamesOwner = replies (shared ++ apply (main_by m1) false (codes "t3") (with_replicas 5) ∷ []) ≡ done (replicas_texts ∷ []) 1 [] [] ∷ done [] 2 [] []
     ∷ clash ((m2, replicas_texts ∷ []) ∷ []) ∷ []
 
 abbrev pub ForceAndUndo : Type 0
 ForceAndUndo =
-    (replies (shared ++ apply m1 true (codes "t4") (with_replicas 5) ∷ undo ∷ []) ≡ done (replicas_texts ∷ []) 1 [] [] ∷ done [] 2 [] []
+    (replies (shared ++ apply (main_by m1) true (codes "t4") (with_replicas 5) ∷ undo ∷ []) ≡ done (replicas_texts ∷ []) 1 [] [] ∷ done [] 2 [] []
     ∷ done [] 1 (replicas_texts ∷ []) [] ∷ at 2 1 ∷ [])
-    × (table_after (shared ++ apply m1 true (codes "t4") (with_replicas 5) ∷ []) ≡ (m1, replicas_texts ∷ [], codes "t4") ∷ [])
-    × (table_after (shared ++ apply m1 true (codes "t4") (with_replicas 5) ∷ undo ∷ []) ≡ (m1, replicas_texts ∷ [], codes "t1")
+    × (table_after (shared ++ apply (main_by m1) true (codes "t4") (with_replicas 5) ∷ []) ≡ (m1, replicas_texts ∷ [], codes "t4") ∷ [])
+    × (table_after (shared ++ apply (main_by m1) true (codes "t4") (with_replicas 5) ∷ undo ∷ []) ≡ (m1, replicas_texts ∷ [], codes "t1")
     ∷ (m2, replicas_texts ∷ [], codes "t2") ∷ [])
 
 abbrev pub GivenUp : Type 0
 GivenUp =
-    replies (shared ++ apply m1 false (codes "t3") bare_object ∷ apply m2 false (codes "t4") bare_object ∷ undo ∷ undo ∷ [])
+    replies (shared ++ apply (main_by m1) false (codes "t3") bare_object ∷ apply (main_by m2) false (codes "t4") bare_object ∷ undo ∷ undo ∷ [])
     ≡ done (replicas_texts ∷ []) 1 [] [] ∷ done [] 2 [] [] ∷ done [] 1 [] [] ∷ done [] 0 [] ((codes "f:spec" ∷ []) ∷ replicas_texts ∷ []) ∷ at 3 1 ∷ at 2 2 ∷ []
 
 abbrev pub port_texts : Text → List Text
@@ -131,9 +131,9 @@ port_with_proto name number =
 
 abbrev pub KeyFieldsStay : Type 0
 KeyFieldsStay =
-    replies (apply m1 false (codes "t1") (with_ports (item (port_with_proto (codes "a") 80) no_items))
-    ∷ update (codes "u") (codes "t2") (with_ports (item (port_with_proto (codes "a") 81) no_items))
-    ∷ apply m1 false (codes "t3") bare_object ∷ [])
+    replies (apply (main_by m1) false (codes "t1") (with_ports (item (port_with_proto (codes "a") 80) no_items))
+    ∷ update (main_by (codes "u")) (codes "t2") (with_ports (item (port_with_proto (codes "a") 81) no_items))
+    ∷ apply (main_by m1) false (codes "t3") bare_object ∷ [])
     ≡ done ((port_texts (codes "a")) ∷ (port_texts (codes "a") ++ codes "f:name" ∷ []) ∷ (port_texts (codes "a") ++ codes "f:port" ∷ [])
     ∷ (port_texts (codes "a") ++ codes "f:proto" ∷ []) ∷ []) 1 [] []
     ∷ done [] 2 ((port_texts (codes "a") ++ codes "f:port" ∷ []) ∷ []) []
@@ -147,17 +147,17 @@ port_points n = port_texts n ∷ (port_texts n ++ codes "f:name" ∷ []) ∷ (po
 
 abbrev pub RemovedItemReturns : Type 0
 RemovedItemReturns =
-    (replies (apply m1 false (codes "t1") (with_ports abc)
-    ∷ update (codes "u") (codes "t2") (with_ports (item (port (codes "a") 1) (item (port (codes "c") 3) no_items))) ∷ undo ∷ [])
+    (replies (apply (main_by m1) false (codes "t1") (with_ports abc)
+    ∷ update (main_by (codes "u")) (codes "t2") (with_ports (item (port (codes "a") 1) (item (port (codes "c") 3) no_items))) ∷ undo ∷ [])
     ≡ done (port_points (codes "a") ++ port_points (codes "b") ++ port_points (codes "c")) 1 [] [] ∷ done [] 1 [] (port_points (codes "b")) ∷ at 1 1 ∷ [])
-    × (ports_after (apply m1 false (codes "t1") (with_ports abc)
-    ∷ update (codes "u") (codes "t2") (with_ports (item (port (codes "a") 1) (item (port (codes "c") 3) no_items))) ∷ undo ∷ [])
+    × (ports_after (apply (main_by m1) false (codes "t1") (with_ports abc)
+    ∷ update (main_by (codes "u")) (codes "t2") (with_ports (item (port (codes "a") 1) (item (port (codes "c") 3) no_items))) ∷ undo ∷ [])
     ≡ codes "k:{\"name\":\"a\"}" ∷ codes "k:{\"name\":\"b\"}" ∷ codes "k:{\"name\":\"c\"}" ∷ [])
 
 abbrev pub ReorderGivesNothing : Type 0
 ReorderGivesNothing =
-    let cs = apply m1 false (codes "t1") (with_ports abc)
-    ∷ update (codes "u") (codes "t2") (with_ports (item (port (codes "c") 3) (item (port (codes "b") 2) (item (port (codes "a") 1) no_items)))) ∷ [] in
+    let cs = apply (main_by m1) false (codes "t1") (with_ports abc)
+    ∷ update (main_by (codes "u")) (codes "t2") (with_ports (item (port (codes "c") 3) (item (port (codes "b") 2) (item (port (codes "a") 1) no_items)))) ∷ [] in
     (replies cs ≡ done (port_points (codes "a") ++ port_points (codes "b") ++ port_points (codes "c")) 1 [] [] ∷ done [] 1 [] [] ∷ [])
     × (ports_after cs ≡ codes "k:{\"name\":\"c\"}" ∷ codes "k:{\"name\":\"b\"}" ∷ codes "k:{\"name\":\"a\"}" ∷ [])
     × (table_after cs ≡ (m1, port_points (codes "a") ++ port_points (codes "b") ++ port_points (codes "c"), codes "t1") ∷ [])
@@ -171,7 +171,7 @@ image_texts = codes "f:spec" ∷ codes "f:image" ∷ []
 
 abbrev pub OperationsAreKeys : Type 0
 OperationsAreKeys =
-    replies (update (codes "m") (codes "t1") (with_image (codes "a:1")) ∷ apply (codes "m") false (codes "t2") (with_image (codes "a:2")) ∷ [])
+    replies (update (main_by (codes "m")) (codes "t1") (with_image (codes "a:1")) ∷ apply (main_by (codes "m")) false (codes "t2") (with_image (codes "a:2")) ∷ [])
     ≡ done (image_texts ∷ []) 1 [] [] ∷ clash ((codes "m", image_texts ∷ []) ∷ []) ∷ []
 
 abbrev pub image_and_replicas : ℕ → Json
@@ -179,14 +179,14 @@ image_and_replicas n = object_with (member (codes "image") (string_json (codes "
 
 abbrev pub ForceTakesModifiedAlone : Type 0
 ForceTakesModifiedAlone =
-    let cs = apply m1 false (codes "t1") (image_and_replicas 3) ∷ apply m2 true (codes "t2") (image_and_replicas 4) ∷ [] in
+    let cs = apply (main_by m1) false (codes "t1") (image_and_replicas 3) ∷ apply (main_by m2) true (codes "t2") (image_and_replicas 4) ∷ [] in
     (replies cs ≡ done (image_texts ∷ replicas_texts ∷ []) 1 [] [] ∷ done [] 2 (replicas_texts ∷ []) [] ∷ [])
     × (table_after cs ≡ (m1, image_texts ∷ [], codes "t1") ∷ (m2, image_texts ∷ replicas_texts ∷ [], codes "t2") ∷ [])
 
 abbrev pub LiveItemsFirst : Type 0
 LiveItemsFirst =
-    ports_after (update (codes "u") (codes "t1") (with_ports (item (port (codes "a") 1) (item (port (codes "b") 2) no_items)))
-    ∷ apply m1 false (codes "t2") (with_ports (item (port (codes "c") 3) (item (port (codes "a") 1) no_items))) ∷ [])
+    ports_after (update (main_by (codes "u")) (codes "t1") (with_ports (item (port (codes "a") 1) (item (port (codes "b") 2) no_items)))
+    ∷ apply (main_by m1) false (codes "t2") (with_ports (item (port (codes "c") 3) (item (port (codes "a") 1) no_items))) ∷ [])
     ≡ codes "k:{\"name\":\"a\"}" ∷ codes "k:{\"name\":\"b\"}" ∷ codes "k:{\"name\":\"c\"}" ∷ []
 
 abbrev pub with_labels : Members → Json
@@ -197,13 +197,13 @@ app_label = codes "f:metadata" ∷ codes "f:labels" ∷ codes "f:app" ∷ []
 
 abbrev pub EmptyDictIsPoint : Type 0
 EmptyDictIsPoint =
-    replies (apply m1 false (codes "t1") (with_labels (member (codes "app") (string_json (codes "web")) no_members))
-    ∷ apply m2 false (codes "t2") (with_labels no_members) ∷ apply m1 false (codes "t3") bare_object ∷ [])
+    replies (apply (main_by m1) false (codes "t1") (with_labels (member (codes "app") (string_json (codes "web")) no_members))
+    ∷ apply (main_by m2) false (codes "t2") (with_labels no_members) ∷ apply (main_by m1) false (codes "t3") bare_object ∷ [])
     ≡ done (app_label ∷ []) 1 [] [] ∷ done [] 2 [] [] ∷ done [] 1 [] (app_label ∷ []) ∷ []
 
 abbrev pub RefusedKeepsFuture : Type 0
 RefusedKeepsFuture =
-    replies (shared ++ undo ∷ apply m2 false (codes "t5") (with_replicas 9) ∷ redo ∷ undo ∷ apply m2 false (codes "t6") (with_replicas 3) ∷ redo ∷ [])
+    replies (shared ++ undo ∷ apply (main_by m2) false (codes "t5") (with_replicas 9) ∷ redo ∷ undo ∷ apply (main_by m2) false (codes "t6") (with_replicas 3) ∷ redo ∷ [])
     ≡ done (replicas_texts ∷ []) 1 [] [] ∷ done [] 2 [] [] ∷ at 1 1 ∷ clash ((m1, replicas_texts ∷ []) ∷ []) ∷ at 2 0 ∷ at 1 1 ∷ done [] 2 [] []
     ∷ refusal nothing_to_redo ∷ []
 

@@ -3,7 +3,12 @@ use Rattle.std.specs.Prelude.{ℕ, [], ◌∷◌, codes, pos}
 use Rattle.ssa_model.specs.definitions.Json.{Text, text, whole, Json, scalar, list, object, no_items, item, Members, no_members, member}
 use Rattle.ssa_model.specs.definitions.Path.{Path, field}
 use Rattle.ssa_model.specs.definitions.Kind.{Kind, texts, wholes, scalar_kind, atomic_of, record_of, dict_of, set_of, items_of, Fields, no_fields, kind_field, list_shape, dict_shape, scalar_shape}
+use Rattle.ssa_model.specs.definitions.Parts.{main, Actor}
 use Rattle.ssa_model.specs.definitions.Schema.{Schema}
+
+-- who acts through no subresource
+abbrev pub main_by : Text → Actor
+main_by n = record { name = n; part = main }
 
 abbrev pub string_json : Text → Json
 string_json t = scalar (text t)
@@ -32,6 +37,12 @@ spec_fields =
     (kind_field (codes "limits") (atomic_of (dict_shape (scalar_shape wholes)))
     (kind_field (codes "ports") (items_of (codes "name" ∷ []) port_fields)
     (kind_field (codes "replicas") (scalar_kind wholes) no_fields))))))
+
+-- the sample with a root property `status`
+abbrev pub status_kind : Kind
+status_kind =
+    record_of (kind_field (codes "metadata") (record_of metadata_fields) (kind_field (codes "spec") (record_of spec_fields)
+    (kind_field (codes "status") (record_of (kind_field (codes "ready") (scalar_kind wholes) no_fields)) no_fields)))
 
 abbrev pub sample_kind : Kind
 sample_kind = record_of (kind_field (codes "metadata") (record_of metadata_fields) (kind_field (codes "spec") (record_of spec_fields) no_fields))
@@ -76,6 +87,13 @@ spec_properties =
 
 abbrev pub sample_schema : Schema
 sample_schema = record { source = with_properties (member (codes "spec") (with_properties spec_properties) no_members); kind = sample_kind }
+
+abbrev pub status_schema : Schema
+status_schema = record {
+  source = with_properties (member (codes "spec") (with_properties spec_properties)
+      (member (codes "status") (with_properties (member (codes "ready") integer_schema no_members)) no_members));
+  kind = status_kind;
+}
 
 abbrev pub port : Text → ℕ → Json
 port name number = object (member (codes "name") (string_json name) (member (codes "port") (number_json number) no_members))

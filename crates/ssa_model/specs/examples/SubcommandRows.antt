@@ -6,7 +6,7 @@ use Rattle.ssa_model.specs.definitions.Readings.{ReadFault, not_json, null_value
 use Rattle.ssa_model.specs.definitions.Answers as answers
 use Rattle.ssa_model.specs.definitions.Answers.{answer, run}
 use Rattle.ssa_model.specs.definitions.Subcommands.{Asked, apply, update, strip, undo, redo, show, owners, log, asked_answer, init_text, is_accepted, is_change}
-use Rattle.ssa_model.specs.examples.Sample.{number_json}
+use Rattle.ssa_model.specs.examples.Sample.{main_by, number_json}
 use Rattle.ssa_model.specs.examples.Rows.{m1, new_bench, with_replicas}
 use Rattle.ssa_model.specs.examples.MoreRows.{texts_json}
 use Rattle.ssa_model.specs.examples.LineRows.{after_shared, reading_as}
@@ -21,10 +21,10 @@ bench_after bench asked given = (asked_answer (reading_as given) bench asked).1
 
 -- `t1` is the one moment
 abbrev pub apply_at : Text → Asked
-apply_at at = apply m1 false at (codes "the file")
+apply_at at = apply (main_by m1) false at (codes "the file")
 
 abbrev pub update_at : Text → Asked
-update_at at = update m1 at (codes "the file")
+update_at at = update (main_by m1) at (codes "the file")
 
 -- a subcommand that names no file and no path
 abbrev pub told_alone : Bench → Asked → Text
@@ -39,11 +39,11 @@ FilesAreAccepted =
     (told_for new_bench (apply_at (codes "t1")) (Ok (with_replicas 3))
     ≡ codes "{\"added\":[[\"f:spec\",\"f:replicas\"]],\"done\":\"apply\",\"managers\":1,\"modified\":[],\"removed\":[]}")
     × (bench_after new_bench (apply_at (codes "t1")) (Ok (with_replicas 3))
-    ≡ (run new_bench (answers.apply m1 false (codes "t1") (with_replicas 3) ∷ [])).1)
+    ≡ (run new_bench (answers.apply (main_by m1) false (codes "t1") (with_replicas 3) ∷ [])).1)
     × (told_for new_bench (update_at (codes "t1")) (Ok (with_replicas 3))
     ≡ codes "{\"added\":[[\"f:spec\",\"f:replicas\"]],\"done\":\"update\",\"managers\":1,\"modified\":[],\"removed\":[]}")
     × (bench_after new_bench (update_at (codes "t1")) (Ok (with_replicas 3))
-    ≡ (run new_bench (answers.update m1 (codes "t1") (with_replicas 3) ∷ [])).1)
+    ≡ (run new_bench (answers.update (main_by m1) (codes "t1") (with_replicas 3) ∷ [])).1)
 
 -- Files that are no values, moments that are none, and an object that the bench refuses. The file's fault comes before the moment's,
 -- the moment's before the object's; and the bench stays.

@@ -6,7 +6,8 @@ use Rattle.std.specs.List.{All}
 use Rattle.ssa_model.specs.definitions.Limits.{most_past, most_bench_bytes}
 use Rattle.ssa_model.specs.definitions.Json.{Text, Json, scalar, whole, compact, same_text, member_at}
 use Rattle.ssa_model.specs.definitions.Readings.{Readings}
-use Rattle.ssa_model.specs.definitions.Commands.{text_in, truth_in, value_in}
+use Rattle.ssa_model.specs.definitions.Commands.{text_in, truth_in, value_in, subresource_in}
+use Rattle.ssa_model.specs.definitions.Parts.{Actor}
 use Rattle.ssa_model.specs.definitions.Schema.{Schema, read_schema}
 use Rattle.ssa_model.specs.definitions.Table.{Table, same_manager}
 use Rattle.ssa_model.specs.definitions.Operations.{State}
@@ -76,14 +77,14 @@ lone_in readings schema v = elim (bench_of readings schema (object_in v)) [ Ok b
 abbrev pub said_label : Json → Label
 said_label v =
     let word = text_in (member_at (codes "do") v) in
-    let who = text_in (member_at (codes "manager") v) in
+    let who : Actor = record { name = text_in (member_at (codes "manager") v); part = subresource_in (member_at (codes "subresource") v) } in
     let at = text_in (member_at (codes "at") v) in
     if same_text word (codes "apply") then applied who (truth_in (member_at (codes "force") v)) at
     else (if same_text word (codes "update") then updated who at else stripped)
 
 abbrev pub is_label : Readings → Label → Bool
-is_label readings (applied who force at) = is_manager_name who && readings.moment at
-is_label readings (updated who at) = is_manager_name who && readings.moment at
+is_label readings (applied who force at) = is_manager_name who.name && readings.moment at
+is_label readings (updated who at) = is_manager_name who.name && readings.moment at
 is_label readings stripped = true
 
 abbrev pub label_in : Readings → Json → Option Label

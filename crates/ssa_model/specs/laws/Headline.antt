@@ -2,7 +2,8 @@
 use Rattle.std.specs.Prelude.{◌≡◌, ◌<◌, ◌≤◌, List, [], ◌++◌, Bool, false, true, length, take, Ok, codes}
 use Rattle.ssa_model.specs.definitions.Json.{Text, Json, same_text}
 use Rattle.ssa_model.specs.definitions.Body.{Body, modified}
-use Rattle.ssa_model.specs.definitions.Table.{applies, ManagerKey}
+use Rattle.ssa_model.specs.definitions.Parts.{Actor, part_of}
+use Rattle.ssa_model.specs.definitions.Table.{applies, key_of}
 use Rattle.ssa_model.specs.definitions.Operations.{Clash, clashes, conflict, pruned}
 use Rattle.ssa_model.specs.definitions.History.{Bench, Timeline, past_len, future_len, present}
 use Rattle.ssa_model.specs.definitions.Answers.{Answer, Command, Fault, apply, undo, redo, fault, moved, refused, answer, command_body, run}
@@ -59,19 +60,19 @@ abbrev pub RefusalsChangeNothing : Type 0
 RefusalsChangeNothing = (bench : Bench) (c : Command) (f : Fault) → (answer bench c).0 ≡ fault f → (answer bench c).1 ≡ bench
 
 -- the clashes of an Apply without force of the configuration: the other managers, and exactly their fields that would change
-pub record IsConflictOf (bench : Bench) (who : Text) (force : Bool) (v : Json) (cs : List Clash) : Type 0 where
+pub record IsConflictOf (bench : Bench) (who : Actor) (force : Bool) (v : Json) (cs : List Clash) : Type 0 where
   pub config : Body
   pub body : command_body bench v ≡ Ok config
   pub unforced : force ≡ false
   pub listed :
-      let a : ManagerKey = record { name = who; operation = applies } in
+      let a = key_of applies who in
       let now = present bench.timeline in
-      cs ≡ clashes a (modified now.body (pruned now a config)) now.table
+      cs ≡ clashes a (modified now.body (pruned now a (part_of who.part config))) now.table
 
 -- a conflict lists exactly the managers and fields concerned
 abbrev pub ConflictsListClashes : Type 0
 ConflictsListClashes =
-    (bench : Bench) (who : Text) (force : Bool) (at : Text) (v : Json) (cs : List Clash)
+    (bench : Bench) (who : Actor) (force : Bool) (at : Text) (v : Json) (cs : List Clash)
     → (answer bench (apply who force at v)).0 ≡ fault (refused (conflict cs)) → IsConflictOf bench who force v cs
 
 -- no answer to a line is told as want of memory is

@@ -1,11 +1,13 @@
 -- The operations keep what is valid: bodies fit their kind, tables are of their body, managers stay in order.
 use Rattle.ssa_model.specs.definitions.Valid.{IsManagers, IsTable, IsRooted, IsValidState, has_distinct_keys, KeepsOrder, IsValidHistory, IsNextStep}
-use Rattle.std.specs.Prelude.{◌≡◌, ◌≤◌, ◌+◌, Bool, true, length, Ok}
+use Rattle.std.specs.Prelude.{◌≡◌, ◌≤◌, ◌+◌, Bool, true, false, length, Ok}
 use Rattle.ssa_model.specs.definitions.Json.{Text}
-use Rattle.ssa_model.specs.definitions.Limits.{most_places, most_managers}
-use Rattle.ssa_model.specs.definitions.PathMap.{PathSet, size}
+use Rattle.ssa_model.specs.definitions.Limits.{most_managers}
+use Rattle.ssa_model.specs.definitions.PathMap.{PathSet, get}
+use Rattle.ssa_model.specs.definitions.Path.{Path, is_root}
 use Rattle.ssa_model.specs.definitions.Kind.{Kind}
 use Rattle.ssa_model.specs.definitions.Body.{Body, over}
+use Rattle.ssa_model.specs.definitions.Parts.{Subresource, is_path_of}
 use Rattle.ssa_model.specs.definitions.Table.{ManagerKey, Table, seat}
 use Rattle.ssa_model.specs.definitions.Fitting.{IsBodyOf}
 use Rattle.ssa_model.specs.definitions.Operations.{State, apply, update, strip, pruned}
@@ -43,6 +45,21 @@ ApplyKeepsTable =
 abbrev pub StripKeepsTable : Type 0
 StripKeepsTable = (state : State) → IsTable (strip state).body (strip state).table
 
+-- ---- an operation changes no content and no order outside its manager's part
+
+abbrev pub StaysOutside : Subresource → Body → Body → Type 0
+StaysOutside s before after = (p : Path) → is_root p ≡ false → is_path_of s p ≡ false → get after p ≡ get before p
+
+abbrev pub ApplyStaysInPart : Type 0
+ApplyStaysInPart =
+    (kind : Kind) (state next : State) (a : ManagerKey) (config : Body) (force : Bool) (at : Text)
+    → IsValidState kind state → apply state a config force at ≡ Ok next → StaysOutside a.part state.body next.body
+
+abbrev pub UpdateStaysInPart : Type 0
+UpdateStaysInPart =
+    (state next : State) (u : ManagerKey) (object : Body) (at : Text)
+    → update state u object at ≡ Ok next → StaysOutside u.part state.body next.body
+
 -- ---- an operation that a valid state takes leads to a valid state
 
 abbrev pub ApplyKeepsValid : Type 0
@@ -54,7 +71,7 @@ ApplyKeepsValid =
 abbrev pub UpdateKeepsValid : Type 0
 UpdateKeepsValid =
     (kind : Kind) (state next : State) (u : ManagerKey) (object : Body) (at : Text)
-    → IsValidState kind state → IsBodyOf kind object → IsRooted object → size object ≤ most_places → is_manager_name u.name ≡ true
+    → IsValidState kind state → IsBodyOf kind object → IsRooted object → is_manager_name u.name ≡ true
     → update state u object at ≡ Ok next → IsValidState kind next
 
 abbrev pub StripKeepsValid : Type 0

@@ -1,9 +1,9 @@
 -- An Apply conflicts as its configuration tells, or it is free to be carried out.
 use Rattle.std.proofs.Common.{ap, ◌∙◌, sym, refl}
 use Rattle.ssa_model.specs.definitions.Body.{points, modified}
-use Rattle.ssa_model.specs.definitions.PathMap.{size}
+use Rattle.ssa_model.specs.definitions.PathMap.{size, union}
 use Rattle.ssa_model.specs.definitions.Table.{seat}
-use Rattle.ssa_model.specs.definitions.Operations.{clashes, conflict, pruned}
+use Rattle.ssa_model.specs.definitions.Operations.{clashes, conflict, owned_outside, pruned}
 use Rattle.ssa_merge.specs.Managers.{key_view, clashes_view, conflict_view}
 use Rattle.ssa_merge.specs.States.{state_view}
 use Rattle.ssa_merge.specs.Plans.{conflict_of}
@@ -19,7 +19,7 @@ returns-in-Some-clause-change c =
     let body = pruned state a config in
     let changed = modified state.body body in
     let clash = clashes a changed state.table in
-    let table = seat state.table a (points config) changed changed c.args.at in
+    let table = seat state.table a (union (points config) (owned_outside state.table a)) changed changed c.args.at in
     let told = c.in_ok-told.ensures.modified_are ∙ sym (modified-told state a config c.points_tell_places.ensures) in
     let forbids = some-conflict c.args.force clash (clashes_view c.in-Some.found.items) (ap conflict_view (sym c.in-Some.is) ∙ c.in_ok-found.ensures
     ∙ (λ i. conflict_of c.args.force (clashes a (told i) state.table))) in (

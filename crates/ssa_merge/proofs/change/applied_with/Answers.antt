@@ -1,11 +1,11 @@
 -- What an Apply without a conflict changes, where it has too many paths, is seated or is refused a seat.
 use Rattle.std.proofs.Common.{◌≡◌, ◌∙◌, sym, subst, refl}
 use Rattle.std.specs.Prelude.{Result, Ok, Err, if◌then◌else◌, unwrap_or}
-use Rattle.ssa_model.specs.definitions.PathMap.{size}
+use Rattle.ssa_model.specs.definitions.PathMap.{size, union}
 use Rattle.ssa_model.specs.definitions.Body.{points, modified}
 use Rattle.ssa_model.specs.definitions.Table.{Table, owned_by, seat}
 use Rattle.ssa_model.specs.definitions.Operations as model
-use Rattle.ssa_model.specs.definitions.Operations.{State, clashes, pruned, too_many_paths}
+use Rattle.ssa_model.specs.definitions.Operations.{State, clashes, owned_outside, pruned, too_many_paths}
 use Rattle.ssa_merge.specs.Managers.{key_view}
 use Rattle.ssa_merge.specs.States.{state_view}
 use Rattle.ssa_merge.specs.TableChanges.{IsSeated}
@@ -22,7 +22,7 @@ returns-then-has_too_many_places-clause-change c = λ config merging compared fr
     let body = pruned state a config in
     let changed = modified state.body body in
     let clash = clashes a changed state.table in
-    let table = seat state.table a (points config) changed changed c.args.at in
+    let table = seat state.table a (union (points config) (owned_outside state.table a)) changed changed c.args.at in
     let quiet = no-conflict c.args.force clash free in
     let over = too-many c.has_too_many_places.result (body_after c.args.made.body c.args.made.comparison.removed state.body) body merging
     (c.has_too_many_places.ensures c.args.made.comparison.removed).0 c.if-has_too_many_places.true in (
@@ -39,7 +39,7 @@ returns-in-Ok-clause-change c = λ config merging compared free own.
     let body = pruned state a config in
     let changed = modified state.body body in
     let clash = clashes a changed state.table in
-    let table = seat state.table a (points config) changed changed c.args.at in
+    let table = seat state.table a (union (points config) (owned_outside state.table a)) changed changed c.args.at in
     let quiet = no-conflict c.args.force clash free in
     let few = few-enough c.has_too_many_places.result (body_after c.args.made.body c.args.made.comparison.removed state.body) body merging
     (c.has_too_many_places.ensures c.args.made.comparison.removed).1 c.if-has_too_many_places.false in
@@ -47,7 +47,7 @@ returns-in-Ok-clause-change c = λ config merging compared free own.
     let seats : ◌≡◌ {A = Table} (seat state.table a (unwrap_or c.args.owned (owned_by state.table a)) c.taken-lost.result.now c.args.made.comparison.modified c.args.at)
     table
     = (λ i. seat state.table a (own i) (lost i) (compared.modified_are i) c.args.at)
-    ∙ seat-unforced state.table a (points config) changed c.args.at c.args.force quiet in
+    ∙ seat-unforced state.table a (union (points config) (owned_outside state.table a)) changed c.args.at c.args.force quiet in
     let given = apply-decided state a config c.args.force c.args.at body clash (size body) table refl refl refl refl in
     let change : Change = record { body = c.args.made.body; table = c.in-Ok.table; comparison = c.args.made.comparison } in
     let is_seated : Table → Type 0 = IsSeated state.table (Ok c.in-Ok.table) in
@@ -62,7 +62,7 @@ returns-in-Err-clause-change c = λ config merging compared free own.
     let body = pruned state a config in
     let changed = modified state.body body in
     let clash = clashes a changed state.table in
-    let table = seat state.table a (points config) changed changed c.args.at in
+    let table = seat state.table a (union (points config) (owned_outside state.table a)) changed changed c.args.at in
     let quiet = no-conflict c.args.force clash free in
     let few = few-enough c.has_too_many_places.result (body_after c.args.made.body c.args.made.comparison.removed state.body) body merging
     (c.has_too_many_places.ensures c.args.made.comparison.removed).1 c.if-has_too_many_places.false in
@@ -70,7 +70,7 @@ returns-in-Err-clause-change c = λ config merging compared free own.
     let seats : ◌≡◌ {A = Table} (seat state.table a (unwrap_or c.args.owned (owned_by state.table a)) c.taken-lost.result.now c.args.made.comparison.modified c.args.at)
     table
     = (λ i. seat state.table a (own i) (lost i) (compared.modified_are i) c.args.at)
-    ∙ seat-unforced state.table a (points config) changed c.args.at c.args.force quiet in
+    ∙ seat-unforced state.table a (union (points config) (owned_outside state.table a)) changed c.args.at c.args.force quiet in
     let given = apply-decided state a config c.args.force c.args.at body clash (size body) table refl refl refl refl in
     let is_seated : Table → Type 0 = IsSeated state.table (Err c.in-Err.refusal) in
     let is_changed : Result State model.Refusal → Type 0 = IsChanged state (Err c.in-Err.refusal) in

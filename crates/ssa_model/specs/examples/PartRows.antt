@@ -1,0 +1,61 @@
+-- Worked examples of the parts of an object: commands through the subresource `status`.
+use Rattle.std.specs.Prelude.{◌≡◌, ℕ, List, [], ◌∷◌, ◌++◌, codes, false, map}
+use Rattle.ssa_model.specs.definitions.Json.{Text, Json, object, Members, no_members, member}
+use Rattle.ssa_model.specs.definitions.PathMap.{paths}
+use Rattle.ssa_model.specs.definitions.Body.{flat}
+use Rattle.ssa_model.specs.definitions.Parts.{Subresource, main, status, Actor}
+use Rattle.ssa_model.specs.definitions.Table.{applies, updates, key_of}
+use Rattle.ssa_model.specs.definitions.Objects.{identity_of}
+use Rattle.ssa_model.specs.definitions.History.{Bench, present}
+use Rattle.ssa_model.specs.definitions.Answers as answers
+use Rattle.ssa_model.specs.definitions.Answers.{Command, apply, update, show, run, Reply}
+use Rattle.ssa_model.specs.definitions.Replies.{reply_text}
+use Rattle.ssa_model.specs.examples.Sample.{main_by, status_kind, status_schema, number_json}
+use Rattle.ssa_model.specs.examples.Rows.{sample_object, with_replicas, m1, new_bench}
+
+abbrev pub status_bench : Bench
+status_bench = record {
+  schema = status_schema;
+  identity = identity_of (sample_object no_members no_members);
+  timeline = record { first = record { body = flat status_kind (object no_members); table = [] }; later = []; place = 0 };
+}
+
+abbrev pub status_by : Text → Actor
+status_by n = record { name = n; part = status }
+
+abbrev pub ready : ℕ → Members
+ready n = member (codes "status") (object (member (codes "ready") (number_json n) no_members)) no_members
+
+abbrev pub both : Json
+both = sample_object no_members (member (codes "spec") (object (member (codes "replicas") (number_json 3) no_members)) (ready 1))
+
+abbrev pub part_commands : List Command
+part_commands =
+    apply (status_by m1) false (codes "t1") both ∷ apply (main_by m1) false (codes "t2") (with_replicas 3)
+    ∷ update (main_by (codes "u")) (codes "t3") (with_replicas 4)
+    ∷ apply (status_by (codes "c")) false (codes "t4") (sample_object no_members (ready 2)) ∷ show false ∷ []
+
+-- the texts of the replies
+abbrev pub reply_texts : Bench → List Command → List Text
+reply_texts bench cs = map reply_text (run bench cs).0
+
+abbrev pub PartsAreApart : Type 0
+PartsAreApart =
+    reply_texts status_bench part_commands
+    ≡ codes "{\"added\":[[\"f:status\",\"f:ready\"]],\"done\":\"apply\",\"managers\":1,\"modified\":[],\"removed\":[]}"
+    ∷ codes "{\"added\":[[\"f:spec\",\"f:replicas\"]],\"done\":\"apply\",\"managers\":2,\"modified\":[],\"removed\":[]}"
+    ∷ codes "{\"added\":[],\"done\":\"update\",\"managers\":2,\"modified\":[[\"f:spec\",\"f:replicas\"]],\"removed\":[]}"
+    ∷ codes "{\"conflicts\":[{\"fields\":[[\"f:status\",\"f:ready\"]],\"manager\":\"m1\",\"operation\":\"Apply\",\"subresource\":\"status\"}],\"fault\":50,\"name\":\"Conflict\"}"
+    ∷ codes "{\"done\":\"show\",\"object\":{\"apiVersion\":\"example.com/v1\",\"kind\":\"App\",\"metadata\":{\"name\":\"web\"},\"spec\":{\"replicas\":4},\"status\":{\"ready\":1}}}"
+    ∷ []
+
+-- the managers afterwards, as names, operations and parts
+abbrev pub PartsAreKeys : Type 0
+PartsAreKeys =
+    map (λ e. e.manager) (present (run status_bench part_commands).1.timeline).table ≡ key_of applies (status_by m1) ∷ key_of updates (main_by (codes "u")) ∷ []
+
+-- where the schema has no `status`, a command through it is refused
+abbrev pub PlainHasNoStatus : Type 0
+PlainHasNoStatus =
+    reply_texts new_bench (apply (status_by m1) false (codes "t1") (sample_object no_members no_members) ∷ [])
+    ≡ codes "{\"fault\":67,\"name\":\"NoSubresource\"}" ∷ []
