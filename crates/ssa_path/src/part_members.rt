@@ -14,11 +14,7 @@ use ssa_members::Members;
 use std::alloc::{AllocError, Global};
 
 /// Puts the member in its place among members whose names rise, where the part is that of a subresource.
-pub fn put_part(
-    alloc: Global,
-    members: &mut Members<Json>,
-    part: Part,
-) -> Result<(), AllocError>
+pub fn put_part(alloc: Global, members: &mut Members<Json>, part: Part) -> Result<(), AllocError>
     ensures { OnOk result (members_view members.new.entries ≡ with_part (part_view part) (members_view members.old.entries)) }
 {
     match part.subresource() {
