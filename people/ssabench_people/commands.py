@@ -7,7 +7,7 @@ from . import engine
 from .answers import object_name, print_change, print_value, tell_conflicts, tell_refusal, turned_reply
 from .bench import Bench, with_file
 from .documents import read_documents, to_yaml
-from .objects import as_taken, identity, to_bench_object
+from .objects import as_taken, identity, tell_status_left_out, to_bench_object
 from .refusal import Refusal
 from .report import Report, counted, line
 from .terminal import say
@@ -45,6 +45,8 @@ def turned_manifests(args, bench):
     keeps_status = engine.takes_status() or not bench.written_apart
     for given in list(manifests(args, live, report)):
         value = as_taken(given, live, args.does == "update", keeps_status, report)
+        if engine.takes_status() and not bench.written_apart and not args.subresource:
+            tell_status_left_out(value, live, args.does == "update", report)
         turned, _ = to_bench_object(bench.root, value, report)
         if value["metadata"].get("managedFields") is not None:
             turned["metadata"]["managedFields"] = value["metadata"]["managedFields"]

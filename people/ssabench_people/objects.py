@@ -84,6 +84,13 @@ def as_taken(value, live, replaces, keeps_status, report):
     return given
 
 
+def tell_status_left_out(value, live, replaces, report):
+    """Tells of the status of a kind that has no subresource for it: a server takes it with the rest, the bench only through the
+    subresource."""
+    if value.get("status") != live.get("status") if replaces else value.get("status") is not None:
+        report.add(".status", "taken with the rest on a server; the bench takes it through the subresource alone, left out", "value")
+
+
 def without_repeats(place, value, way, report):
     """The value in which of repeated items of a set or map list only the last stands; each that goes is told."""
     if place is None or place.is_leaf:
