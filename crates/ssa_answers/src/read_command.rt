@@ -185,12 +185,14 @@ fn apply_command(alloc: Global, mut members: Members<Json>) -> Result<Command, L
     ensures { ReadsCommand result (read_command readings (object (members_view members.entries))) }
 {
     let force = truth_of(&members, "force");
-    let Some(Request {
-        who,
-        part,
-        at,
-        object,
-    }) = take_request(&mut members)
+    let Some(
+        Request {
+            who,
+            part,
+            at,
+            object,
+        },
+    ) = take_request(&mut members)
     else {
         return Err(LineFault::BadMoment);
     };
@@ -210,12 +212,14 @@ fn update_command(alloc: Global, mut members: Members<Json>) -> Result<Command, 
     requires shape { IsTrue (follows_rule (members_view members.entries) (rule_at Word.Update)) }
     ensures { ReadsCommand result (read_command readings (object (members_view members.entries))) }
 {
-    let Some(Request {
-        who,
-        part,
-        at,
-        object,
-    }) = take_request(&mut members)
+    let Some(
+        Request {
+            who,
+            part,
+            at,
+            object,
+        },
+    ) = take_request(&mut members)
     else {
         return Err(LineFault::BadMoment);
     };

@@ -235,8 +235,9 @@ fn refusal_lines(
         );
     }
     if matches!(fault, Fault::NoSubresource) {
-        return b"ssabench: the schema has no field status, so the object has no such subresource\n"
-            .to_vec(alloc);
+        return b"ssabench: the schema has no field status, so the object has no such subresource\n".to_vec(
+            alloc,
+        );
     }
     let Ok(object) = Json::read(alloc, object, MOST_INPUT_BYTES) else {
         return Ok(Vec::new(alloc));

@@ -14,8 +14,8 @@ use ssa_json::value::Json;
 use ssa_json::write::push_comma;
 use ssa_lines::json_text::{FIRST_ROOM, push_number, push_string, push_value};
 use ssa_merge::manager::ManagerKey;
-use ssa_path::path_text::push_paths;
 use ssa_path::part_members::push_part;
+use ssa_path::path_text::push_paths;
 use std::alloc::{AllocError, Global};
 
 /// The reply to a command that makes a state: what it changes.

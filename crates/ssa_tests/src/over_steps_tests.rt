@@ -76,7 +76,15 @@ fn record_text(alloc: Global, steps: &BodySteps) -> Result<String, Fail>
 fn made_under(alloc: Global, schema: &Schema, case: &Case) -> Result<String, Fail> {
     let state = live_state(alloc, schema, case)?;
     let config = body_under(alloc, schema, json(alloc, case.config)?)?;
-    let change = change_apply(alloc, &state, config, "m1", Part::Main, case.force, moment()?)?;
+    let change = change_apply(
+        alloc,
+        &state,
+        config,
+        "m1",
+        Part::Main,
+        case.force,
+        moment()?,
+    )?;
     let Change {
         body,
         table: _,

@@ -7,7 +7,7 @@ use std::alloc::Global;
 use std::test::Fail;
 
 // How the file of records begins, and ends, of the bench on which an image was applied, after the undo.
-const UNDONE_HEAD: &str = "{\"format\":2,\"future\":1,\"past\":0}\n";
+const UNDONE_HEAD: &str = "{\"format\":3,\"future\":1,\"past\":0}\n";
 
 const ONWARD: &str =
     "{\"changed\":[],\"cut\":[],\"gone\":[],\"here\":[{\"entry\":{\"apiVersion\":\"example.com/v1\",\"fieldsType\":\"FieldsV1\",\"fieldsV1\":{\"f:spec\":{\"f:image\":{}}},\"manager\":\"kubectl\",\"operation\":\"Apply\",\"time\":\"2024-05-01T10:00:01Z\"},\"place\":0}],\"leaves\":[],\"order\":[],\"put\":[[[\"f:spec\"],{\"image\":\"a\"}]]}}\n";
@@ -61,7 +61,7 @@ fn is_refused(alloc: Global, text: &[u8]) -> bool {
 }
 
 // Parts of the file, and others in their place, with which it is not the text of a bench.
-const DAMAGES: [(&str, &str); 22] = [
+const DAMAGES: [(&str, &str); 24] = [
     ("\"place\":1", "\"place\":2"),
     ("\"place\":1", "\"place\":-1"),
     ("\"states\":2", "\"states\":1"),
@@ -83,6 +83,14 @@ const DAMAGES: [(&str, &str); 22] = [
     (
         "\"manager\":\"kubectl\"},\"object\"",
         "\"manager\":\"\"},\"object\"",
+    ),
+    (
+        "\"manager\":\"kubectl\"},\"object\"",
+        "\"manager\":\"kubectl\",\"subresource\":\"status\"},\"object\"",
+    ),
+    (
+        "\"operation\":\"Apply\",\"time\"",
+        "\"operation\":\"Apply\",\"subresource\":\"status\",\"time\"",
     ),
     ("\"at\":\"2024-05-01", "\"at\":\"2024-02-30"),
     ("\"f:image\":{}", "\"f:replicas\":{}"),

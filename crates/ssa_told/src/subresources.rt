@@ -35,7 +35,13 @@ pub fn tells_subresource(record: &Json) -> bool {
     let Json::Object(members) = record else {
         return false;
     };
-    items_of(members, "changed").iter().any(|change| has_subresource(change))
-        || items_of(members, "gone").iter().any(|key| is_key_with_subresource(key))
-        || items_of(members, "here").iter().any(|here| is_here_with_subresource(here))
+    items_of(members, "changed")
+        .iter()
+        .any(|change| has_subresource(change))
+        || items_of(members, "gone")
+            .iter()
+            .any(|key| is_key_with_subresource(key))
+        || items_of(members, "here")
+            .iter()
+            .any(|here| is_here_with_subresource(here))
 }

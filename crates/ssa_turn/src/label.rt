@@ -56,12 +56,7 @@ fn applied_json(
     Ok(Json::Object(members))
 }
 
-fn updated_json(
-    alloc: Global,
-    at: &Moment,
-    who: &str,
-    part: Part,
-) -> Result<Json, AllocError>
+fn updated_json(alloc: Global, at: &Moment, who: &str, part: Part) -> Result<Json, AllocError>
     ensures { IfOk result (λ v. view v ≡ label_json (updated (actor who.now (part_view part)) at.now)) }
 {
     let time = at.to_text(alloc)?;
