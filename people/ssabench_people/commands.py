@@ -39,12 +39,10 @@ def manifests(args, live, report):
 def turned_manifests(args, bench):
     """Each manifest of a file as a word takes it and as the bench does, with the live object that it meets. What is not as it was
     is told before each."""
-    if args.subresource and not engine.takes_status():
-        raise Refusal("the proved program takes nothing through a subresource", 2)
     live, report = bench.live(), Report()
-    keeps_status = engine.takes_status() or not bench.written_apart
+    takes_status = args.subresource == "status" or bench.root.plain_status
     for given in list(manifests(args, live, report)):
-        value = as_taken(given, live, args.does == "update", keeps_status, report)
+        value = as_taken(given, live, args.does == "update", takes_status, report)
         turned, _ = to_bench_object(bench.root, value, report)
         if value["metadata"].get("managedFields") is not None:
             turned["metadata"]["managedFields"] = value["metadata"]["managedFields"]
