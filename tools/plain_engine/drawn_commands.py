@@ -133,11 +133,11 @@ def some_rows(dice, body, number):
 
 
 def with_entries(dice, given, body, number):
-    """An object with managedFields."""
+    """An object with managedFields, whose members stand in one order in each run: what is spoiled is drawn by its place."""
     entries, seen = [], set()
     for key, owned, at in some_rows(dice, body, number):
         if key not in seen or dice.one_in(20):
             seen.add(key)
-            entries.append({'apiVersion': given['apiVersion'], 'fieldsType': 'FieldsV1', 'fieldsV1': fields_v1(owned), 'time': at,
+            entries.append({'apiVersion': given['apiVersion'], 'fieldsType': 'FieldsV1', 'fieldsV1': fields_v1(sorted(owned)), 'time': at,
                             **key.members()})
     return {**given, 'metadata': {**given['metadata'], 'managedFields': entries}}

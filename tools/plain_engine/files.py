@@ -2,13 +2,14 @@
 from typing import NamedTuple
 
 from .benches import DEPTH, Bench, read_state, shown
-from .records import carried, has_shape, record
+from .records import carried, has_shape, record, tells_part
 from .schemas import read_schema
-from .tables import is_in_one_order, named
+from .tables import is_in_one_order, is_part_told, named
 from .values import Fault, is_whole, moment, read, text
 
 MOST_BYTES = 67_108_864
-WRITTEN = 2
+# The one that is saved, in which alone subresources are told.
+WRITTEN = 3
 
 
 class Format(NamedTuple):
@@ -19,8 +20,8 @@ class Format(NamedTuple):
     read: object
 
 
-def states_head(bench):
-    return {'format': 1, 'place': bench.place, 'states': len(bench.states)}
+def states_head(bench, number):
+    return {'format': number, 'place': bench.place, 'states': len(bench.states)}
 
 
 def is_states_head(said):
@@ -33,8 +34,8 @@ def whole_states(bench):
     return [{'command': label, 'object': shown(bench.identity, state, True)} for label, state in zip([{}, *bench.labels], bench.states)]
 
 
-def head(bench):
-    return {'format': 2, 'future': bench.future(), 'past': bench.past()}
+def head(bench, number):
+    return {'format': number, 'future': bench.future(), 'past': bench.past()}
 
 
 def is_head(said):
@@ -56,7 +57,20 @@ def recorded(bench):
 def file_text(bench, number=WRITTEN):
     """The text of a bench."""
     form = FORMATS[number]
-    return ''.join(text(line) + '\n' for line in [form.head(bench), bench.schema, *form.lines(bench)]).encode()
+    return ''.join(text(line) + '\n' for line in [form.head(bench, number), bench.schema, *form.lines(bench)]).encode()
+
+
+def can_tell(bench, number):
+    """Whether a format can tell a bench."""
+    return number == WRITTEN or not (any(map(is_part_label, bench.labels)) or any(map(has_part, bench.states)))
+
+
+def is_part_label(label):
+    return 'subresource' in label
+
+
+def has_part(state):
+    return any(row.key.part for row in state.table)
 
 
 def is_label(said):
@@ -64,7 +78,8 @@ def is_label(said):
         if said == {'do': 'strip'}:
             return True
         members = {'apply': {'at', 'do', 'force', 'manager'}, 'update': {'at', 'do', 'manager'}}[said['do']]
-        is_well = isinstance(said['manager'], str) and isinstance(said.get('force', True), bool) and said.keys() == members
+        is_well = (isinstance(said['manager'], str) and isinstance(said.get('force', True), bool) and is_part_told(said)
+                   and said.keys() - {'subresource'} == members)
         return is_well and bool(named(said['manager']) and moment(said['at']))
     except (Fault, LookupError, TypeError):
         return False
@@ -135,6 +150,7 @@ def read_line_of_state(kind, line, is_first):
     that(line['command'] == {} if is_first else is_label(line['command']))
     identity, state = read_state(kind, line['object'])
     that(text(shown(identity, state, True)) == text(line['object']))
+    that(not is_part_label(line['command']) and not has_part(state))
     return identity, state
 
 
@@ -142,7 +158,9 @@ def read_recorded(lines, first, schema, kind):
     told = lines.next()
     identity, state = as_70(read_state, kind, told)
     that(text(shown(identity, state, True)) == text(told))
-    past, future = read_way(lines, first['past'], state, kind, identity), read_way(lines, first['future'], state, kind, identity)
+    has_parts = first['format'] == WRITTEN
+    that(has_parts or not has_part(state))
+    past, future = (read_way(lines, first[name], state, kind, identity, has_parts) for name in ('past', 'future'))
     bench = Bench(schema, kind, identity, state)
     bench.states = [it for it, _ in reversed(past)] + [state] + [it for it, _ in future]
     bench.labels = [label for _, label in reversed(past)] + [label for _, label in future]
@@ -150,12 +168,13 @@ def read_recorded(lines, first, schema, kind):
     return bench
 
 
-def read_way(lines, number, state, kind, identity):
+def read_way(lines, number, state, kind, identity, has_parts):
     """The states to which so many lines lead, each with its label."""
     found = []
     for _ in range(number):
         line = lines.next()
         that(isinstance(line, dict) and line.keys() == {'command', 'record'} and is_label(line['command']) and has_shape(line['record']))
+        that(has_parts or not (is_part_label(line['command']) or tells_part(line['record'])))
         state = carried(line['record'], state, kind, identity[0])
         found.append((state, line['command']))
     return found
@@ -163,4 +182,4 @@ def read_way(lines, number, state, kind, identity):
 
 # Each format that is read, by its number.
 FORMATS = {1: Format(states_head, is_states_head, whole_states, read_states),
-           2: Format(head, is_head, recorded, read_recorded)}
+           **{number: Format(head, is_head, recorded, read_recorded) for number in (2, 3)}}

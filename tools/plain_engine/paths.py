@@ -47,12 +47,13 @@ def is_key_field(path):
 
 
 def fields_v1(paths):
-    """The writing of a set: each member has `{}` where its place is all of the set at and below it."""
+    """The writing of a set: each member has `{}` where its place is all of the set at and below it. The members stand in the order of the
+    paths."""
     below = {}
     for path in paths:
         if path:
-            below.setdefault(path[0], set()).add(path[1:])
-    written = {element: {} if rest == {()} else fields_v1(rest) for element, rest in below.items()}
+            below.setdefault(path[0], []).append(path[1:])
+    written = {element: {} if rest == [()] else fields_v1(rest) for element, rest in below.items()}
     return {'.': {}, **written} if () in paths else written
 
 

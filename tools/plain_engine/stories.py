@@ -8,7 +8,7 @@ from .drawn_commands import (bad_line, identified, moment, new_value, of_crowd, 
                              some_path, with_entries)
 from .drawn_schemas import EVERY_KIND, some_schema
 from .drawn_values import led, permuted, spelled, spoiled, spoiled_bytes
-from .files import FORMATS, file_text
+from .files import FORMATS, can_tell, file_text
 from .play import Play
 from .schemas import read_schema
 from .values import text
@@ -59,9 +59,20 @@ def great(dice, play):
             give(dice, play, {'do': word})
             if number == MOST_MOVES // 2:
                 play.step('save')
+
+
+def full(dice, play):
+    """A history up to its depth without subresources, as a file of each format."""
+    begin(dice, play, EVERY_KIND, IDENTITIES[0], 0)
+    for step in range(MOST_FILLING):
+        if play.bench().is_full():
+            break
+        play.step('line', text(plain(some_change(dice, play.bench(), step))).encode())
     play.close()
-    play.step('file', file_text(play.bench(), 1))
-    play.step('line', b'{"do":"undo"}')
+    bench = play.bench()
+    for number, given in in_each_format(bench):
+        opened(play, bench, number, given)
+        play.step('line', b'{"do":"undo"}')
 
 
 def small(dice, play):
@@ -132,7 +143,7 @@ def command_by_words(dice, play, command):
         given = spoiled_bytes(dice, given) if dice.one_in(2) else text(spoiled(dice, command['object'])).encode()
     at = command['at'] if not dice.one_in(12) else dice.pick(('', 'x', '1969-12-31T23:59:59Z', '2024-02-30T00:00:00Z', '2024-02-29T23:59:59Z'))
     force = (command.get('force', False),) if command['do'] == 'apply' else ()
-    play.step('ask', command['do'], given, at, command['manager'], *force)
+    play.step('ask', command['do'], given, at, command['manager'], command.get('subresource', ''), *force)
 
 
 def starts(dice, play):
@@ -164,7 +175,7 @@ def damaged(dice, play):
         give(dice, play, some_command(dice, play.bench(), step))
     play.step('save')
     play.close()
-    good = play.desk.file
+    good = play.desk.file if not dice.one_in(3) else file_text(play.bench(), 2)
     for _ in range(30):
         given = spoiled_bytes(dice, good) if dice.one_in(4) else invented(dice, good)
         play.step('file', given)
@@ -177,27 +188,71 @@ def damaged(dice, play):
             play.tally.add('a changed file is taken')
 
 
+def plain(command):
+    """The command without a subresource."""
+    return {name: it for name, it in command.items() if name != 'subresource'}
+
+
+def in_each_format(bench):
+    return [(number, file_text(bench, number)) for number in sorted(FORMATS)]
+
+
+def opened(play, bench, number, given):
+    """Takes the file of a bench in a format: whether it is taken, as that bench. It is where the format can tell the bench."""
+    play.step('file', given)
+    taken = play.bench()
+    if (taken is not None) != can_tell(bench, number) or taken and not taken.is_same(bench):
+        raise AssertionError('a file of format %d is not taken as its bench' % number)
+    if play.tally:
+        play.tally.add('format %d: %s' % (number, 'taken' if taken else 'refused'))
+    return taken is not None
+
+
 def formats(dice, play):
-    """A bench with a history, saved in each format: each file is taken as the bench, goes on as it does, and is damaged."""
-    begin(dice, play, EVERY_KIND if dice.one_in(2) else some_schema(dice), dice.pick(IDENTITIES), dice.below(5))
+    """A bench with a history, in half of the stories without subresources, saved in each format: each file is taken as the bench, goes on
+    as it does, and is damaged; or is refused where its format cannot tell the bench."""
+    is_plain = dice.one_in(2)
+    begin(dice, play, EVERY_KIND if dice.one_in(2) else some_schema(dice), dice.pick(IDENTITIES), dice.below(3 if is_plain else 5))
     if play.bench() is None:
         return
     for step in range(1 + dice.below(10)):
-        give(dice, play, some_command(dice, play.bench(), step))
+        command = some_command(dice, play.bench(), step)
+        give(dice, play, plain(command) if is_plain else command)
     for word in dice.some(('undo', 'undo', 'undo', 'redo')):
         give(dice, play, {'do': word})
     play.close()
     bench = play.bench()
-    for number, given in [(number, file_text(bench, number)) for number in sorted(FORMATS)]:
-        play.step('file', given)
-        if not play.bench().is_same(bench):
-            raise AssertionError('a file of format %d is taken as another bench' % number)
-        play.step('ask', 'log')
-        for word in dice.some(('undo', 'redo', 'undo')):
-            give(dice, play, {'do': word})
-        give(dice, play, some_command(dice, play.bench(), 20))
-        play.step('save')
+    for number, given in in_each_format(bench):
+        if opened(play, bench, number, given):
+            play.step('ask', 'log')
+            for word in dice.some(('undo', 'redo', 'undo')):
+                give(dice, play, {'do': word})
+            give(dice, play, some_command(dice, play.bench(), 20))
+            play.step('save')
         damaged_in_format(dice, play, number, given)
+
+
+def older(dice, play):
+    """A bench with a history, mostly without subresources, saved in the older formats and in its own: each file is taken, and goes on as the
+    bench does, or is refused where its format cannot tell the bench."""
+    # Where it is stripped at the end, the present state has no managers: all else may still tell of a subresource.
+    is_stripped = dice.one_in(3)
+    begin(dice, play, EVERY_KIND, dice.pick(IDENTITIES), 4 if is_stripped else dice.below(3))
+    if play.bench() is None:
+        return
+    for step in range(1 + dice.below(8)):
+        command = some_command(dice, play.bench(), step)
+        give(dice, play, plain(command) if is_stripped or not dice.one_in(8) else command)
+    if is_stripped:
+        give(dice, play, {'do': 'strip'})
+    play.close()
+    bench = play.bench()
+    for number, given in in_each_format(bench):
+        is_taken = opened(play, bench, number, given)
+        for word in dice.some(('undo', 'redo', 'undo')):
+            play.step('line', text({'do': word}).encode())
+        if is_taken:
+            give(dice, play, some_command(dice, play.bench(), 20))
 
 
 def damaged_in_format(dice, play, number, good):
@@ -266,12 +321,12 @@ def limits(dice, play):
     long = b'{"do":"undo"}' + b' ' * 1_048_564
     for line in (long, long[:-1], b'[' * 127 + b']' * 127, b'[' * 128 + b']' * 128, b'{"do":' * 200):
         play.step('line', line)
-    play.step('ask', 'apply', text(start).encode() + b' ' * 1_048_576, moment(1), 'a', False)
+    play.step('ask', 'apply', text(start).encode() + b' ' * 1_048_576, moment(1), 'a', '', False)
     play.step('ask', 'log')
 
 
 # How many stories of each kind are drawn for a seed; those of limits are the same for all.
-STORIES = {great: 1, small: 100, crowded: 6, long_lists: 4, words: 16, starts: 30, damaged: 24, formats: 24}
+STORIES = {great: 1, full: 1, small: 100, crowded: 6, long_lists: 4, words: 16, starts: 30, damaged: 24, formats: 24, older: 24}
 
 
 def jobs(seeds, times):

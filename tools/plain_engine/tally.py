@@ -3,11 +3,13 @@ import json
 
 from .benches import read_object
 from .bodies import DICT, METADATA, is_leaf, points
-from .files import FORMATS
+from .files import FORMATS, WRITTEN
+from .operations import Act, owned_by
 from .paths import is_item
+from .tables import Key, part_members
 from .values import NAMES, text
 
-FIELDS = ('annotations', 'finalizers', 'labels', 'args', 'env', 'groups', 'hosts', 'limits', 'numbers', 'parts', 'ports', 'spec')
+FIELDS = ('annotations', 'finalizers', 'labels', 'args', 'env', 'groups', 'hosts', 'limits', 'numbers', 'parts', 'ports', 'spec', 'status')
 DEEDS = ('apply', 'forced apply', 'update')
 LENGTHS = (1, 2, 7, 128)
 COMMANDS = (*DEEDS, 'strip', 'undo', 'redo')
@@ -24,16 +26,21 @@ DONE = ('a repeated apply', 'only an order changed', 'an apply of an order alone
 ORDERS = ('configured in another order', 'inside an item in another order', 'some left out in another order',
           'new ones among others in another order', 'updated in another order', 'a map list in another order',
           'many in another order', 'others between those in another order')
+PARTS = ('an apply through status', 'an update through status', 'one name through both parts', 'a conflict with the other part of a name',
+         'an entry that owns outside its part', 'owned outside the part and kept', 'an update with another status than the live one',
+         'an update through status with another rest than the live one', 'an apply through status without a status',
+         'an apply of a status that is not its part')
+FILES = tuple('format %d: %s' % (number, it) for number in sorted(FORMATS) for it in (
+    'a file', 'taken', *(('refused',) if number != WRITTEN else ()), 'a changed file is taken', 'a changed file is refused'))
 CALLS = ('init', 'session', *(word + ' by words' for word in ('apply', 'update', 'strip', 'undo', 'redo', 'show', 'owners', 'log')),
-         'file', 'a changed file is taken', *('format %d: %s' % (number, it) for number in sorted(FORMATS) for it in (
-             'a file', 'a changed file is taken', 'a changed file is refused')), 'status 0', 'status 1', 'status 3', 'files compared', 'history of 1,000')
+         'file', 'a changed file is taken', 'status 0', 'status 1', 'status 3', 'files compared', 'history of 1,000')
 # What the stories of each seed have to meet, and what all stories together.
 OF_EACH_SEED = (*COMMANDS, 'accepted', 'Conflict', 'undone', 'redone', 'NothingToUndo', 'NothingToRedo', 'TooManyManagers', 'HistoryFull',
-         'places', 'entries', 'owned paths', *LOOKS, *RECORD, *BODY, *DONE, *ORDERS,
+         'places', 'entries', 'owned paths', *LOOKS, *RECORD, *BODY, *DONE, *ORDERS, *PARTS,
          *('%s: %s' % (deed, it) for deed in DEEDS for it in (*FIELDS, *('a name of %d' % length for length in LENGTHS))))
-ALL = tuple(dict.fromkeys((*OF_EACH_SEED, *REFUSALS, *CALLS)))
+ALL = tuple(dict.fromkeys((*OF_EACH_SEED, *REFUSALS, *CALLS, *FILES)))
 GROUPS = {'commands': (*COMMANDS, *LOOKS), 'answers': ('accepted', 'undone', 'redone', *REFUSALS), 'states': ('places', 'entries', 'owned paths'),
-          'bodies and tables': BODY, 'what commands did': DONE, 'orders': ORDERS, 'records': RECORD, 'calls': CALLS}
+          'bodies and tables': BODY, 'what commands did': DONE, 'orders': ORDERS, 'parts': PARTS, 'formats': FILES, 'records': RECORD, 'calls': CALLS}
 FIRST = (*COMMANDS, 'accepted', 'undone', 'redone', 'Conflict', 'TooManyManagers', 'HistoryFull', 'NothingToUndo', 'NothingToRedo',
          'places', 'entries', 'owned paths')
 
@@ -69,9 +76,10 @@ class Tally:
     def call(self, word, given, outcome, before, bench):
         self.add(word + ' by words')
         said = json.loads(outcome.printed) if outcome.printed else {}
-        command = {'do': word, 'managed': word == 'show' and given[0], 'force': word == 'apply' and given[3]}
-        if word in ('apply', 'update') and 'done' in said:
-            command |= {'object': json.loads(given[0]), 'manager': given[2]}
+        command = {'do': word, 'managed': word == 'show' and given[0], 'force': word == 'apply' and given[4]}
+        if word in ('apply', 'update'):
+            command |= {'manager': given[2], **part_members(given[3])}
+            command |= {'object': json.loads(given[0])} if 'done' in said else {}
         self.answered(command, said, before, bench)
 
     def outcome(self, word, outcome):
@@ -108,6 +116,8 @@ class Tally:
             self.add(deed)
         if 'fault' in said:
             self.add(said['name'])
+            self.add('a conflict with the other part of a name', any(
+                it['manager'] == command['manager'] and it.get('subresource') != command.get('subresource') for it in said.get('conflicts', ())))
             return
         if word in LOOKS:
             self.look('show managed' if command.get('managed') is True else word, bench.state())
@@ -147,6 +157,7 @@ class Tally:
                 self.add(self.empty(path, there))
             self.add('items of two keys', bool(path) and path[-1].startswith('k:') and len(json.loads(path[-1][2:])) > 1)
             self.add('names that need escapes', bool(path) and '\\' in text(path[-1][2:] if not is_item(path[-1]) else ''))
+        self.add('an entry that owns outside its part', sum(not Act(row.key, '').has(path) for row in table for path in row.owned))
         self.add('owned branches', sum(path not in own for row in table for path in row.owned))
         owned = [path for row in table for path in row.owned]
         self.add('shared paths', len(owned) - len(set(owned)))
@@ -159,7 +170,8 @@ class Tally:
     def changed(self, word, command, said, before, bench):
         """What an accepted apply or update did."""
         after, given = bench.state(), read_object(bench.kind, command['object'], bench.identity).body
-        key = (command['manager'], word.capitalize())
+        key = Key(command['manager'], word.capitalize(), command.get('subresource', ''))
+        self.parts(word, key, given, before, after)
         old, new = ({row.key: row for row in state.table} for state in (before, after))
         mine, now = old.get(key), new.get(key)
         self.add('a repeated apply', before == after)
@@ -179,6 +191,22 @@ class Tally:
         for path, there in after.body.items():
             if isinstance(there, tuple) and isinstance(before.body.get(path), tuple):
                 self.order(word, path, before.body[path], given.get(path, ()))
+
+    def parts(self, word, key, given, before, after):
+        """What an accepted apply or update did with the parts of the object."""
+        act, live = Act(key, ''), before.body
+        outside = {path: there for path, there in given.items() if not act.has(path)}
+        self.add('an %s through status' % word, bool(key.part))
+        self.add('one name through both parts', len({row.key.part for row in after.table if row.key.name == key.name}) > 1)
+        rows = [owned_by(state.table, key) for state in (before, after)]
+        self.add('owned outside the part and kept', any(not act.has(path) for path in rows[0] & rows[1]))
+        if word == 'update':
+            is_other = outside != {path: there for path, there in live.items() if not act.has(path)}
+            self.add('an update %s than the live one' % ('through status with another rest' if key.part else 'with another status'), is_other)
+        elif key.part:
+            self.add('an apply through status without a status', len(given) > 1 and len(outside) == len(given))
+        else:
+            self.add('an apply of a status that is not its part', bool(outside))
 
     def given_up(self, paths, before, after):
         others = {path for row in after.table for path in row.owned}

@@ -6,7 +6,8 @@ from . import benches, bodies, files, operations, paths, records, tables
 
 over, merged_order, compare, points = bodies.over, bodies.merged_order, bodies.compare, bodies.points
 seat, clashes = tables.seat, operations.clashes
-change, keep, move, read_fields, carried = benches.Bench.change, benches.Bench.keep, benches.Bench.move, paths.read_fields_v1, records.carried
+act, change, keep, move = benches.Bench.act, benches.Bench.change, benches.Bench.keep, benches.Bench.move
+read_fields, carried = paths.read_fields_v1, records.carried
 
 
 def configuration_first(live, configured):
@@ -173,6 +174,59 @@ def commands_of_states_not_asked(kind, line, is_first):
     return benches.read_state(kind, line['object'])
 
 
+def part_not_restricted(act, body):
+    return body
+
+
+def whole_object_taken(act, body, live):
+    return body
+
+
+def owned_outside_lost(table, act):
+    return frozenset()
+
+
+def given_up_in_both_parts(table, act, config):
+    held = set().union(*map(paths.beginnings, tables.others(table, act.key)))
+    return {path for path in operations.owned_by(table, act.key)
+            if path not in config and not paths.is_key_field(path) and path not in held}
+
+
+def subresource_before_name(bench, command):
+    if command.get('subresource') and 'status' not in bench.kind.fields:
+        raise benches.Fault(67)
+    return act(bench, command)
+
+
+def subresource_of_any_schema(bench, command):
+    key = tables.Key(tables.named(command['manager']), command['do'].capitalize(), command.get('subresource', ''))
+    return operations.Act(key, command['at'])
+
+
+def key_without_part(key):
+    return {'manager': key.name, 'operation': key.operation}
+
+
+def gone_without_part(key):
+    return [key.name, key.operation]
+
+
+def label_without_part(part):
+    return {}
+
+
+def older_labels_with_parts(label):
+    return False
+
+
+def older_entries_with_parts(state):
+    return False
+
+
+def older_records_with_parts(told):
+    return False
+
+
 def orders_not_recorded(order, after):
     return False
 
@@ -197,4 +251,10 @@ WRONG = {it[2].__name__: it for it in (
     (benches.Bench, 'move', removed_items_at_the_end), (benches.Bench, 'move', emptied_managers_last),
     (tables, 'read_fields_v1', not_canonical_read), (files.Lines, 'next', second_spelling_read), (files, 'carried', records_not_compared),
     (files, 'at_place', present_state_is_the_last), (files, 'read_line_of_state', commands_of_states_not_asked),
+    (operations.Act, 'of_part', part_not_restricted), (operations.Act, 'joined', whole_object_taken),
+    (operations, 'owned_outside', owned_outside_lost), (operations, 'dropped', given_up_in_both_parts),
+    (benches.Bench, 'act', subresource_before_name), (benches.Bench, 'act', subresource_of_any_schema),
+    (tables.Key, 'members', key_without_part), (tables.Key, 'listed', gone_without_part), (benches, 'part_members', label_without_part),
+    (files, 'is_part_label', older_labels_with_parts), (files, 'has_part', older_entries_with_parts),
+    (files, 'tells_part', older_records_with_parts),
     (records, 'is_reordered', orders_not_recorded), (records, 'alone', all_changed_paths_cut))}

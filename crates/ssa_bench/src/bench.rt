@@ -204,13 +204,7 @@ impl Bench {
     }
 
     // The body of an Apply's or an Update's object, or the first fault of the command.
-    fn tested_body(
-        &self,
-        alloc: Global,
-        who: &str,
-        part: Part,
-        object: Json,
-    ) -> Result<Body, Fault>
+    fn tested_body(&self, alloc: Global, who: &str, part: Part, object: Json) -> Result<Body, Fault>
         ensures given { IsGiven result (tested_body self.now (actor who.now (part_view part)) (view object)) }
         ensures valid { IfOk result (λ b. IsValidBody self.now.schema.kind b) }
         ensures named { IfOk result (λ b. is_manager_name who.now ≡ true) }

@@ -17,6 +17,7 @@ ghost use Rattle.ssa_bench.specs.Taking.{held_head};
 use crate::bench::Bench;
 use crate::taking::{head_of, schema_of};
 use ssa_file::head::{FileHead, RecordCounts, StatePlace};
+use ssa_file::recording::RecordFormat;
 use ssa_json::source::Source;
 use ssa_lines::loading::{FileLine, LoadFault, read_value};
 use ssa_lines::saving::MOST_FILE_BYTES;
@@ -114,6 +115,7 @@ fn read_past<R: Source>(
     reader: &mut R,
     room: &mut usize,
     bench: &mut Bench,
+    format: RecordFormat,
     count: usize,
     number: &mut usize,
 ) -> Result<(), LoadFault>
@@ -126,7 +128,7 @@ fn read_past<R: Source>(
     for _ in 0..count {
         *number = number.saturating_add(1);
         let line = next_line(alloc, reader, room)?;
-        bench.go_back_by(alloc, &line)?;
+        bench.go_back_by(alloc, format, &line)?;
     }
     Ok(())
 }
@@ -137,6 +139,7 @@ fn read_future<R: Source>(
     reader: &mut R,
     room: &mut usize,
     bench: &mut Bench,
+    format: RecordFormat,
     count: usize,
     number: &mut usize,
 ) -> Result<(), LoadFault>
@@ -149,7 +152,7 @@ fn read_future<R: Source>(
     for _ in 0..count {
         *number = number.saturating_add(1);
         let line = next_line(alloc, reader, room)?;
-        bench.go_on_by(alloc, &line)?;
+        bench.go_on_by(alloc, format, &line)?;
     }
     bench.place_is_within();
     Ok(())
@@ -202,9 +205,25 @@ fn read_history<R: Source>(
     ensures read { ReadsOn (moves_from readings counts.now.past counts.now.future bench.old) (R.remaining reader.old) (R.remaining reader.new) room.old bench.new result }
     ensures failed { result ≡ Err LoadFault.Io → R.has_failed reader.new ≡ true }
 {
-    read_past(alloc, reader, room, bench, counts.past, number)?;
+    read_past(
+        alloc,
+        reader,
+        room,
+        bench,
+        counts.format,
+        counts.past,
+        number,
+    )?;
     bench.go_to(counts.past);
-    read_future(alloc, reader, room, bench, counts.future, number)?;
+    read_future(
+        alloc,
+        reader,
+        room,
+        bench,
+        counts.format,
+        counts.future,
+        number,
+    )?;
     *number = number.saturating_add(1);
     read_end(alloc, reader, room)?;
     bench.go_to(counts.past);
@@ -234,16 +253,17 @@ fn read_rest<R: Source>(
 impl Bench {
     /// Takes a bench from its file: the text of the bench in one of the formats, and nothing else.
     ///
-    /// The first line says the format. In format 2, which [`save`](Bench::save) writes, the present object
-    /// stands first, then the records that lead back from it, and those that lead on; in format 1 all
-    /// states stand there, from the first on, each as its object. Reads line by line, and holds one line
-    /// beside the bench that it makes. Each record's room is made on the way, so that undo and redo take
-    /// no memory. Of several faulty lines the first is told.
+    /// The first line says the format. In format 3, which [`save`](Bench::save) writes, and in format 2 the
+    /// present object stands first, then the records that lead back from it, and those that lead on; in
+    /// format 1 all states stand there, from the first on, each as its object. In formats 1 and 2 no
+    /// command and no manager has a subresource. Reads line by line, and holds one line beside the bench
+    /// that it makes. Each record's room is made on the way, so that undo and redo take no memory. Of
+    /// several faulty lines the first is told.
     /// `BenchText` is answered for a line that is not as it is written in the format: another spelling of
     /// a value, a schema, an object or an entry that is refused, a label that no command gives, what has
-    /// not the shape of a record, in format 1 managers in another order than before; for a first line of
-    /// neither format; for a wrong count of lines; for more commands than can be undone;
-    /// and for more than [`MOST_FILE_BYTES`](ssa_lines::saving::MOST_FILE_BYTES) bytes.
+    /// not the shape of a record, in format 1 managers in another order than before, in formats 1 and 2 a
+    /// subresource; for a first line of no format; for a wrong count of lines; for more commands than can
+    /// be undone; and for more than [`MOST_FILE_BYTES`](ssa_lines::saving::MOST_FILE_BYTES) bytes.
     /// `RecordDoesNotFit` is answered for a record that is none from the state that it is told of to a
     /// valid one. Of what the commands of the history do nothing is asked: their states are taken as
     /// they stand there, or as the records lead to them.

@@ -12,6 +12,7 @@ ghost use Rattle.ssa_turn.specs.Histories.{label_view};
 ghost use Rattle.ssa_bench.specs.Benches.{IsGivenState, version_in};
 
 use crate::bench::file_state;
+use crate::taking::{are_main_managers, is_main_label};
 use ssa_answers::fault::Fault;
 use ssa_json::value::Json;
 use ssa_members::Members;
@@ -25,6 +26,13 @@ use std::alloc::{AllocError, Global};
 pub(crate) struct TakenStep {
     pub(crate) label: Label,
     pub(crate) state: State,
+}
+
+impl TakenStep {
+    // Whether neither the command nor a manager of the state acts through a subresource.
+    pub(crate) fn is_main(&self) -> bool {
+        is_main_label(&self.label) && are_main_managers(&self.state.managers)
+    }
 }
 
 // The label of the command that a line says, none where it says none.

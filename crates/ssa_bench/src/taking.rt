@@ -105,7 +105,9 @@ pub(crate) fn is_main_label(label: &Label) -> bool {
 
 // Whether no manager acts through a subresource.
 pub(crate) fn are_main_managers(managers: &Managers) -> bool {
-    managers.iter().all(|entry| matches!(entry.key.part, Part::Main))
+    managers
+        .iter()
+        .all(|entry| matches!(entry.key.part, Part::Main))
 }
 
 // The step of a command and its record that was read, or why their line is refused.

@@ -9,7 +9,7 @@ ghost use Rattle.ssa_model.specs.laws.RecordedBenches.{counts_in};
 ghost use Rattle.ssa_json.specs.View.{view};
 ghost use Rattle.ssa_file.specs.Heads.{IsFew, counts_view, head_view, place_view};
 
-use crate::recording::{put_number, record_head};
+use crate::recording::{RecordFormat, put_number, record_head};
 use ssa_json::value::{Json, Scalar};
 use ssa_lines::written::is_text_of;
 use ssa_members::Members;
@@ -25,9 +25,10 @@ pub struct StatePlace {
     pub states: usize,
 }
 
-/// How many commands a bench file of records has: those that can be undone, and those that can be redone.
+/// The format of a bench file of records, and how many commands it has: those that can be undone, and those that can be redone.
 #[derive(Clone, Copy, Debug, PartialEq, Eq)]
 pub struct RecordCounts {
+    pub format: RecordFormat,
     pub past: usize,
     pub future: usize,
 }
@@ -37,7 +38,7 @@ pub struct RecordCounts {
 pub enum FileHead {
     /// Format 1: all states, each as its object.
     States(StatePlace),
-    /// Format 2: the present object, and records that lead to the other states.
+    /// Formats 2 and 3: the present object, and records that lead to the other states.
     Records(RecordCounts),
 }
 
@@ -96,11 +97,28 @@ fn state_place(alloc: Global, value: &Json) -> Result<Option<StatePlace>, AllocE
     }
 }
 
-/// The counts that the value of a first line says, where it is written so, and no more than 1,000 in all.
+// The format of records whose number this is.
+fn format_of(number: usize) -> Option<RecordFormat> {
+    match number {
+        2 => Some(RecordFormat::Records),
+        3 => Some(RecordFormat::Parts),
+        _ => None,
+    }
+}
+
+// The format of records that a first line says.
+fn format_in(value: &Json) -> Option<RecordFormat> {
+    format_of(number_in(value, "format")?)
+}
+
+/// The format and the counts that the value of a first line says, where it is written so, and no more than 1,000 in all.
 pub fn record_counts(alloc: Global, value: &Json) -> Result<Option<RecordCounts>, AllocError>
     ensures is { IfOk result (λ o. option_map counts_view o ≡ counts_in (view value.now)) }
     ensures few { IfOk result (λ o. IfSome o (λ c. c.past + c.future ≤ most_past)) }
 {
+    let Some(format) = format_in(value) else {
+        return Ok(None);
+    };
     let Some(past) = number_in(value, "past") else {
         return Ok(None);
     };
@@ -110,9 +128,13 @@ pub fn record_counts(alloc: Global, value: &Json) -> Result<Option<RecordCounts>
     if past + future > MOST_COMMANDS {
         return Ok(None);
     }
-    let written = record_head(alloc, past, future)?;
+    let written = record_head(alloc, format, past, future)?;
     if is_written_as(alloc, value, &written)? {
-        Ok(Some(RecordCounts { past, future }))
+        Ok(Some(RecordCounts {
+            format,
+            past,
+            future,
+        }))
     } else {
         Ok(None)
     }

@@ -1,12 +1,13 @@
 //! Bench files: a bench as a text, and the first lines of files.
 //!
 //! What a bench is as a text is written by [`recorded_text`]; the first line of a file, its head, says the
-//! format, which [`file_head`] reads, and in this one how many commands there are, as [`record_counts`] tells.
+//! format, which [`file_head`] reads, and in a file of records how many commands there are, as [`record_counts`] tells.
 //!
 //! ```
-//! let head = json(rt.alloc(), r#"{"format":2,"future":0,"past":1}"#)?;
+//! let head = json(rt.alloc(), r#"{"format":3,"future":0,"past":1}"#)?;
 //! let counts = record_counts(rt.alloc(), &head)?;
-//! assert_eq!(rt; counts, Some(RecordCounts { past: 1, future: 0 }));
+//! let format = RecordFormat::Parts;
+//! assert_eq!(rt; counts, Some(RecordCounts { format, past: 1, future: 0 }));
 //! ```
 #![tactic(auto)]
 
@@ -15,4 +16,4 @@ pub mod recording;
 pub mod state_line;
 
 pub use head::{FileHead, RecordCounts, StatePlace, file_head, record_counts};
-pub use recording::{record_head, recorded_text};
+pub use recording::{RecordFormat, record_head, recorded_text};

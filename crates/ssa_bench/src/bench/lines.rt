@@ -17,13 +17,25 @@ use super::Bench;
 use crate::record_reading::RecordReading;
 use crate::taking::{Step, answered_step, label_of, load_fault};
 use ssa_file::head::FileHead;
+use ssa_file::recording::RecordFormat;
 use ssa_json::value::Json;
 use ssa_lines::loading::{FileLine, LoadFault};
 use ssa_lines::written::is_text_of;
 use ssa_model::records::recorded_moves;
 use ssa_schema::schema::Schema;
 use ssa_told::line_values::line_values;
+use ssa_told::subresources::tells_subresource;
 use std::alloc::{AllocError, Global};
+
+// Whether a line of the format can tell the command and the record.
+fn can_tell(format: RecordFormat, command: &Json, record: &Json) -> bool {
+    match format {
+        RecordFormat::Records => {
+            command.member("subresource").is_none() && !tells_subresource(record)
+        }
+        RecordFormat::Parts => true,
+    }
+}
 
 impl Bench {
     // The bench of the state that a third line shows: of the first one or of the present one, by the format.
@@ -39,7 +51,9 @@ impl Bench {
     {
         match head {
             FileHead::States(_) => Bench::of_first_line(alloc, schema, line),
-            FileHead::Records(_) => Bench::of_present_line(alloc, schema, line),
+            FileHead::Records(counts) => {
+                Bench::of_present_line(alloc, counts.format, schema, line)
+            }
         }
     }
 
@@ -52,8 +66,21 @@ impl Bench {
         is_text_of(alloc, &shown, text)
     }
 
+    // Whether the format can tell the managers of the present state.
+    fn is_of_format(&self, format: RecordFormat) -> bool {
+        match format {
+            RecordFormat::Records => self.has_main_managers(),
+            RecordFormat::Parts => true,
+        }
+    }
+
     // The bench of the present state that a line shows.
-    fn of_present_line(alloc: Global, schema: Schema, line: FileLine) -> Result<Bench, LoadFault>
+    fn of_present_line(
+        alloc: Global,
+        format: RecordFormat,
+        schema: Schema,
+        line: FileLine,
+    ) -> Result<Bench, LoadFault>
         requires { line.text.items ≡ compact (view line.value) }
         ensures taken { IsTaken result (present_in readings schema (view line.value)) }
         ensures lone { IfOk result (λ b. b.timeline ≡ lone_state b.timeline.first) }
@@ -61,7 +88,7 @@ impl Bench {
         let FileLine { value, text } = line;
         match Bench::new(alloc, schema, value) {
             Ok(bench) => {
-                if bench.is_present_line(alloc, &text)? {
+                if bench.is_of_format(format) && bench.is_present_line(alloc, &text)? {
                     Ok(bench)
                 } else {
                     Err(LoadFault::BenchText)
@@ -72,7 +99,12 @@ impl Bench {
     }
 
     // The command of a line, and its record, made ready for its turns in the present state.
-    fn told_move(&mut self, alloc: Global, value: &Json) -> Result<Step, LoadFault>
+    fn told_move(
+        &mut self,
+        alloc: Global,
+        format: RecordFormat,
+        value: &Json,
+    ) -> Result<Step, LoadFault>
         requires { has_rising_names (view value.now) ≡ true }
         ensures same { self.new ≡ self.old }
         ensures told { TellsMove self.old result (view value.now) }
@@ -83,6 +115,9 @@ impl Bench {
         let Some(values) = line_values(value) else {
             return Err(LoadFault::BenchText);
         };
+        if !can_tell(format, values.command, values.record) {
+            return Err(LoadFault::BenchText);
+        }
         let Some(label) = label_of(alloc, values.command)? else {
             return Err(LoadFault::BenchText);
         };
@@ -97,25 +132,35 @@ impl Bench {
     }
 
     // Goes by a line to the state before all others.
-    pub(crate) fn go_back_by(&mut self, alloc: Global, line: &FileLine) -> Result<(), LoadFault>
+    pub(crate) fn go_back_by(
+        &mut self,
+        alloc: Global,
+        format: RecordFormat,
+        line: &FileLine,
+    ) -> Result<(), LoadFault>
         requires names { has_rising_names (view line.now.value) ≡ true }
         requires first { past_len self.old.timeline ≡ 0 }
         requires few { length self.old.timeline.later < most_past }
         ensures { MovesBy preceded self.old self.new result (view line.now.value) }
     {
-        let step = self.told_move(alloc, &line.value)?;
+        let step = self.told_move(alloc, format, &line.value)?;
         self.timeline.precede(step.boxed(alloc)?)?;
         Ok(())
     }
 
     // Goes by a line to the state behind the present one.
-    pub(crate) fn go_on_by(&mut self, alloc: Global, line: &FileLine) -> Result<(), LoadFault>
+    pub(crate) fn go_on_by(
+        &mut self,
+        alloc: Global,
+        format: RecordFormat,
+        line: &FileLine,
+    ) -> Result<(), LoadFault>
         requires names { has_rising_names (view line.now.value) ≡ true }
         requires few { past_len self.old.timeline < most_past }
         ensures { MovesBy appended self.old self.new result (view line.now.value) }
     {
         self.timeline.place_is_within();
-        let step = self.told_move(alloc, &line.value)?;
+        let step = self.told_move(alloc, format, &line.value)?;
         self.timeline.append(step.boxed(alloc)?)?;
         Ok(())
     }

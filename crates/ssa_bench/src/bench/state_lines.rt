@@ -14,7 +14,7 @@ ghost use Rattle.ssa_bench.specs.Taking.{GoesOn, IsTaken, TakesStep, taken_view}
 
 use super::Bench;
 use crate::state_taking::{TakenStep, label_in, object_in, state_in};
-use crate::taking::{Step, load_fault};
+use crate::taking::{Step, are_main_managers, load_fault};
 use ssa_file::state_line::is_line_of;
 use ssa_json::value::Json;
 use ssa_lines::loading::{FileLine, LoadFault};
@@ -25,6 +25,11 @@ use ssa_turn_state::live_state::StateDelta;
 use std::alloc::{AllocError, Global};
 
 impl Bench {
+    // Whether no manager of the present state acts through a subresource.
+    pub(crate) fn has_main_managers(&self) -> bool {
+        are_main_managers(&self.timeline.present().managers)
+    }
+
     // Whether the text is that of the line of the only state.
     fn is_first_line(&self, alloc: Global, text: &[u8]) -> Result<bool, AllocError>
         requires { self.now.timeline ≡ lone_state self.now.timeline.first }
@@ -48,7 +53,7 @@ impl Bench {
         let FileLine { value, text } = line;
         match Bench::new(alloc, schema, object_in(alloc, value)) {
             Ok(bench) => {
-                if bench.is_first_line(alloc, &text)? {
+                if bench.has_main_managers() && bench.is_first_line(alloc, &text)? {
                     Ok(bench)
                 } else {
                     Err(LoadFault::BenchText)
@@ -85,7 +90,7 @@ impl Bench {
         match state_in(alloc, &self.schema, object_in(alloc, value)) {
             Ok(state) => {
                 let step = TakenStep { label, state };
-                if self.is_next_line(alloc, &step, &text)? {
+                if step.is_main() && self.is_next_line(alloc, &step, &text)? {
                     Ok(step)
                 } else {
                     Err(LoadFault::BenchText)
