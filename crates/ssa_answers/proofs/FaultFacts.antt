@@ -1,14 +1,16 @@
 -- The texts of faults.
-use Rattle.std.proofs.Common.{◌≡◌, ◌≢◌, refl, sym, ap, ◌∙◌}
+use Rattle.std.proofs.Common.{◌≡◌, ◌≢◌, [], ◌∷◌, ◌++◌, true, refl, sym, ap, ◌∙◌}
 use Rattle.std.specs.Prelude.{codes}
-use Rattle.ssa_model.specs.definitions.Json.{Text, Json, list, object, no_members, member, compact}
+use Rattle.ssa_model.specs.definitions.Json.{Text, Json, list, object, no_members, member, compact, compact_members}
 use Rattle.ssa_model.specs.definitions.Path.{Path, element_text}
 use Rattle.ssa_model.specs.definitions.Kind as kinds
-use Rattle.ssa_model.specs.definitions.Entries.{text_json}
+use Rattle.ssa_model.specs.definitions.Entries.{part_members, text_json}
+use Rattle.ssa_model.specs.definitions.Parts.{Subresource, main, status}
 use Rattle.ssa_model.specs.definitions.Answers.{Fault, body_fault}
 use Rattle.ssa_model.specs.definitions.GivenEntries as entries
 use Rattle.ssa_model.specs.definitions.Faults.{body_fault_code}
 use Rattle.ssa_model.specs.definitions.Replies.{with_fault, fault_json, entry_fault_json, fault_reply}
+use Rattle.ssa_path.specs.PartMembers.{part_text}
 use Rattle.ssa_schema.specs.Finds.{told}
 use Rattle.ssa_schema.specs.declared.body_fault.BodyFault.{BodyFault}
 use Rattle.ssa_answers.specs.Faults.{IsFault, bench_code}
@@ -49,3 +51,10 @@ bench_json-told (Body f) g is = ap told_json is.2 ∙ told_json-told is.0.fault 
 bench_json-told (Entry f) g is = entry_fault-json f is.0 is.2 ∙ ap fault_reply (sym is.1)
 bench_json-told OutOfMemory g is = absurd is
 bench_json-told _ g is = ap fault_reply (sym is)
+
+-- ---- conflicts
+
+-- what closes a conflict is written behind the member of a subresource
+pub part-closed : (s : Subresource) → part_text s ++ 125 ∷ [] ≡ compact_members true (part_members s no_members)
+part-closed main = refl
+part-closed status = refl
