@@ -9,6 +9,7 @@ use Rattle.ssa_model.specs.definitions.MemberNames.{is_below}
 use Rattle.ssa_model.specs.definitions.Parts.{Subresource, main, status}
 use Rattle.ssa_model.specs.definitions.Record.{Change}
 use Rattle.ssa_model.specs.definitions.RecordText.{change_json, time_members}
+use Rattle.ssa_model.proofs.Ascii.{ascii-is-utf8}
 use Rattle.ssa_json.specs.MemberTexts.{member_text}
 use Rattle.ssa_json.specs.Writable.{IsOfProgram}
 use Rattle.ssa_json.proofs.MemberTexts.{writes-member, writes-object}
@@ -46,7 +47,8 @@ time-above (Some at) = refl
 part-of-program : (s : Subresource) (at : Option Text) → IsOfProgram (object (time_members at)) → IsOfProgram (object (part_members s (time_members at)))
 part-of-program main at rest = rest
 part-of-program status at rest =
-    member-of-program (codes "subresource") (text_json (codes "status")) (time_members at) refl (time-above at) (text-of-program (codes "status") refl) rest
+    member-of-program (codes "subresource") (text_json (codes "status")) (time_members at) (ascii-is-utf8 (codes "subresource") refl) (time-above at)
+    (text-of-program (codes "status") (ascii-is-utf8 (codes "status") refl)) rest
 
 -- ---- a change
 
