@@ -1,7 +1,7 @@
 """A walk along the elements of a path: through the schema's places, the value there, and the path on the bench."""
 from .documents import compact
 from .elements import bench_first, key_text, named_keys, read, value_text, way_of_name
-from .places import OTHERS
+from .places import OTHERS, STATUS
 
 
 class Along:
@@ -88,6 +88,8 @@ class Along:
             path = tuple(bench_first(name))
         elif self.path == () and name == "metadata":
             path = None
+        elif self.path == () and name == "status" and self.place.plain_status:
+            path = ("f:" + STATUS,)
         else:
             path = (*self.path, *(["f:" + OTHERS] if is_other else []), "f:" + name)
         named = name if not is_other and self.place.kind == "record" else "*"

@@ -1,7 +1,7 @@
 """A bench: its file, and the file of its places beside it.
 
 `NAME.places.json` holds what the bench's file doesn't: what each place of the schema is, what a server keeps of its own in
-metadata, whether the kind's status is written elsewhere, and the digest of the bench's schema, by which the two are one's.
+metadata, and the digest of the bench's schema, by which the two are one's.
 """
 import contextlib
 import copy
@@ -17,7 +17,7 @@ from .objects import from_bench_object
 from .ownership import shown_entry
 from .refusal import Refusal
 
-FORMAT = 1
+FORMAT = 2
 
 
 def places_name(name):
@@ -32,9 +32,9 @@ class Bench:
         try:
             with open(places_name(name), encoding="utf-8") as file:
                 told = json.load(file)
-            if told["format"] != FORMAT:
+            if not _is_taken(told):
                 raise Refusal(f"{places_name(name)}: format {told['format']} is not this program's", 3)
-            self.kept, self.written_apart = told["kept"], told["statusApart"]
+            self.kept = told["kept"]
             self.root = places.from_json(told["places"])
             schema = told["schema"]
         except OSError as fault:
@@ -86,10 +86,16 @@ class Bench:
         with tempfile.TemporaryDirectory(prefix="ssabench-") as folder:
             twin = copy.copy(self)
             twin.name = os.path.join(folder, "bench")
-            status, reply, lines = make(twin.name, self.root, value, self.kept, self.written_apart)
+            status, reply, lines = make(twin.name, self.root, value, self.kept)
             if status != 0:
                 raise Refusal("; ".join(lines) or reply["name"], status)
             yield twin
+
+
+def _is_taken(told):
+    """Whether what stands beside a bench is of this form, or of the one before, where that says the same: it had no place of its
+    own for a status that is written with all else."""
+    return told["format"] == FORMAT or told["format"] == 1 and (told["statusApart"] or "status" not in told["places"]["fields"])
 
 
 def _schema_of(name):
@@ -106,12 +112,12 @@ def _digest(text):
     return hashlib.sha256(text).hexdigest()
 
 
-def make(name, root, value, kept, status_apart, source="the object"):
+def make(name, root, value, kept, source="the object"):
     """Makes a bench of an object of the bench, which came from `source`. Gives the status, the reply and the lines of the proved
     program; neither file is touched where it refuses."""
     folder = os.path.dirname(os.path.abspath(name))
     schema = places.engine_root(root)
-    told = {"format": FORMAT, "kept": kept, "statusApart": status_apart, "places": places.to_json(root)}
+    told = {"format": FORMAT, "kept": kept, "places": places.to_json(root)}
     told["schema"] = _digest(compact(schema).encode("utf-8"))
     try:
         made = tempfile.mkdtemp(prefix=".ssabench-", dir=folder)

@@ -7,7 +7,7 @@ from . import engine
 from .answers import object_name, print_change, print_value, tell_conflicts, tell_refusal, turned_reply
 from .bench import Bench, with_file
 from .documents import read_documents, to_yaml
-from .objects import as_taken, identity, tell_status_left_out, to_bench_object
+from .objects import as_taken, identity, to_bench_object
 from .refusal import Refusal
 from .report import Report, counted, line
 from .terminal import say
@@ -39,14 +39,10 @@ def manifests(args, live, report):
 def turned_manifests(args, bench):
     """Each manifest of a file as a word takes it and as the bench does, with the live object that it meets. What is not as it was
     is told before each."""
-    if args.subresource and not engine.takes_status():
-        raise Refusal("the proved program takes nothing through a subresource", 2)
     live, report = bench.live(), Report()
-    keeps_status = engine.takes_status() or not bench.written_apart
+    takes_status = args.subresource == "status" or bench.root.plain_status
     for given in list(manifests(args, live, report)):
-        value = as_taken(given, live, args.does == "update", keeps_status, report)
-        if engine.takes_status() and not bench.written_apart and not args.subresource:
-            tell_status_left_out(value, live, args.does == "update", report)
+        value = as_taken(given, live, args.does == "update", takes_status, report)
         turned, _ = to_bench_object(bench.root, value, report)
         if value["metadata"].get("managedFields") is not None:
             turned["metadata"]["managedFields"] = value["metadata"]["managedFields"]

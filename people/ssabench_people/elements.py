@@ -9,7 +9,7 @@ import re
 from typing import NamedTuple
 
 from .documents import compact, parse_json
-from .places import BENCH_METADATA, METADATA, OTHERS
+from .places import BENCH_METADATA, METADATA, OTHERS, STATUS
 
 PLAIN_NAME = re.compile(r"^[A-Za-z_(*][A-Za-z0-9_()*-]*$")
 
@@ -85,6 +85,8 @@ def _longer(root, above, text):
         return above
     if place is root and not above.among_others and text == "f:" + METADATA:
         return RealPath(root.fields["metadata"], ("f:metadata",), ".metadata")
+    if place is root and not above.among_others and root.plain_status and text == "f:" + STATUS:
+        return RealPath(root.fields["status"], ("f:status",), ".status", is_structural=False)
     if not above.among_others and place and place.kind == "record" and place.rest and text == "f:" + OTHERS:
         return above._replace(among_others=True, is_structural=True)
     whole = bool(place) and place.whole_items

@@ -50,10 +50,3 @@ def in_session(bench, commands):
     if ran.returncode != 0 or len(replies) != len(commands):
         raise Refusal(ran.stderr.strip() or f"ssabench ended with status {ran.returncode}", ran.returncode or 3)
     return replies
-
-
-@functools.cache
-def takes_status():
-    """Whether the program takes what is written through the subresource `status`."""
-    ran = subprocess.run([program(), "apply", "--help"], capture_output=True, text=True, check=False)
-    return "--subresource" in ran.stdout

@@ -50,7 +50,7 @@ def _copy(args):
     live, report = bench.live(), Report()
     value = engine.asked("show", args.bench)["object"]
     entries = migrated(live["metadata"].get("managedFields") or [], args.field_manager, report)
-    value["metadata"]["managedFields"] = Turning(bench.root, live, report, engine.takes_status()).entries(entries)
+    value["metadata"]["managedFields"] = Turning(bench.root, live, report).entries(entries)
     report.tell()
     return bench.made_of(value)
 
@@ -67,14 +67,16 @@ def _explained(args, bench, value, turned, live):
     if reply is None or "fault" in reply:
         tell_refused(bench.root, args, reply, lines, live, value)
         return None, status
-    label = {"do": "apply", "manager": args.field_manager} | ({"subresource": args.subresource} if args.subresource else {})
+    part = {"subresource": args.subresource} if args.subresource else {}
+    label = {"do": "apply", "manager": args.field_manager} | part
     changes = Changes(bench.root, live, bench.live(), acting(label), reply, bench.reordered()[-1])
     found = {
         "object": object_name(value),
         "manager": args.field_manager,
+        **part,
         "conflicts": conflicts,
         "changes": _of_manifest(changes),
-        "server": _otherwise(bench.root, changes, value, live),
+        "server": _otherwise(bench.root, changes, {"status": value.get("status")} if part else value, live),
         "live": live,
     }
     return found, status
@@ -112,7 +114,7 @@ def _conflicts(root, conflicts, live, value):
 
 
 def _otherwise(root, changes, value, live):
-    """What a server would do otherwise, each with the sentence that tells it."""
+    """What a server would do otherwise, each with the sentence that tells it. `value` is what counts of the manifest."""
     found = []
     gone = servers.removals(root, changes)
     for path, way in gone:
@@ -129,7 +131,8 @@ def _otherwise(root, changes, value, live):
 
 
 def _print(found):
-    applier = f"an apply by {found['manager']}"
+    through = f" through {found['subresource']}" if "subresource" in found else ""
+    applier = f"an apply by {found['manager']}{through}"
     if found["conflicts"]:
         say((f"{found['object']}: {applier} is refused, {counted(len(found['conflicts']), 'field')} in conflict", "head"))
         for one in found["conflicts"]:
@@ -151,7 +154,7 @@ def _print(found):
 
 
 def _in_json(found):
-    told = {name: found[name] for name in ("object", "manager")}
+    told = {name: found[name] for name in ("object", "manager", "subresource") if name in found}
     told["conflicts"] = [shown_change(one) for one in found["conflicts"]]
     told["changes"] = [shown_change(one) for one in found["changes"]]
     told["notProved"] = {"server": found["server"]}

@@ -1,7 +1,7 @@
 """Objects: what a server shows, or a manifest, as an object of the bench, and back."""
 from .documents import compact
 from .elements import named_keys
-from .places import BENCH_METADATA, METADATA
+from .places import BENCH_METADATA, METADATA, STATUS
 from .refusal import Refusal
 from .turning import from_bench, to_bench
 
@@ -42,6 +42,8 @@ def to_bench_object(root, value, report):
     named = {name: metadata[name] for name in IDENTITY if metadata.get(name) is not None}
     body = {name: part for name, part in value.items() if name not in ("apiVersion", "kind", "metadata")}
     found = to_bench(root, body, "", report)
+    if root.plain_status and "status" in found:
+        found[STATUS] = found.pop("status")
     found |= {"apiVersion": value["apiVersion"], "kind": value["kind"], "metadata": turned | named}
     if more:
         found[METADATA] = more
@@ -59,15 +61,17 @@ def from_bench_object(root, value, kept):
     metadata = {**value["metadata"], **more}
     entries = metadata.pop("managedFields", None)
     body = {name: part for name, part in value.items() if name not in ("apiVersion", "kind", "metadata", METADATA)}
+    if root.plain_status and STATUS in body:
+        body["status"] = body.pop(STATUS)
     shown = {"apiVersion": value["apiVersion"], "kind": value["kind"]}
     shown["metadata"] = from_bench(root.fields["metadata"], metadata) | kept
     shown |= from_bench(root, body)
     return shown, entries
 
 
-def as_taken(value, live, replaces, keeps_status, report):
-    """The manifest without what a server takes from nobody: its own parts of metadata, and a status that is written elsewhere.
-    Where it replaces the object, that status stays as it is live."""
+def as_taken(value, live, replaces, takes_status, report):
+    """The manifest without what a server takes from nobody: its own parts of metadata, and a status that is written elsewhere,
+    of which nothing is told where the object is replaced by one with the live status."""
     metadata = {}
     for name, part in value["metadata"].items():
         if name in SERVERS_OWN and part is not None:
@@ -75,20 +79,12 @@ def as_taken(value, live, replaces, keeps_status, report):
         else:
             metadata[name] = part
     given = {**value, "metadata": metadata}
-    if keeps_status or replaces and given.get("status") == live.get("status"):
+    if takes_status:
         return given
-    if given.pop("status", None) is not None:
+    status = given.pop("status", None)
+    if status is not None and not (replaces and status == live.get("status")):
         report.add(".status", "written through the subresource, left out", "value")
-    if replaces and "status" in live:
-        given["status"] = live["status"]
     return given
-
-
-def tell_status_left_out(value, live, replaces, report):
-    """Tells of the status of a kind that has no subresource for it: a server takes it with the rest, the bench only through the
-    subresource."""
-    if value.get("status") != live.get("status") if replaces else value.get("status") is not None:
-        report.add(".status", "taken with the rest on a server; the bench takes it through the subresource alone, left out", "value")
 
 
 def without_repeats(place, value, way, report):

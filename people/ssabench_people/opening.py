@@ -1,7 +1,6 @@
 """The word that makes a bench of a schema and an object."""
 import os
 
-from . import engine
 from .answers import object_name, print_value, tell_refusal
 from .bench import make
 from .documents import read_documents
@@ -50,13 +49,13 @@ def do_open(args):
         raise Refusal(f"{args.file}: .metadata.managedFields is no list")
     if args.migrate:
         entries = migrated(entries, args.field_manager, report)
-    turning = Turning(root, value, report, engine.takes_status(), args.same_schema)
+    turning = Turning(root, value, report, args.same_schema)
     turned["metadata"]["managedFields"] = turning.entries(entries)
     report.tell()
     if report.losses and not args.drop:
         line("no bench was made: --drop makes it without what is left out")
         return 1
-    status, reply, lines = make(args.bench, root, turned, kept, schema.has_status, args.file)
+    status, reply, lines = make(args.bench, root, turned, kept, args.file)
     if status != 0:
         tell_refusal(root, args.file, reply, lines)
         return status

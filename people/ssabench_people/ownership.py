@@ -22,13 +22,12 @@ def entry_name(entry):
 
 
 class Turning:
-    """Turns the entries of one object. `takes_status` says whether the proved program takes entries of the status."""
+    """Turns the entries of one object."""
 
-    def __init__(self, root, value, report, takes_status=False, same_schema=False):
+    def __init__(self, root, value, report, same_schema=False):
         self.root = root
         self.value = value
         self.report = report
-        self.takes_status = takes_status
         self.same_schema = same_schema
 
     def entries(self, given):
@@ -54,7 +53,7 @@ class Turning:
         name, count = entry_name(entry), counted(len(said_paths(entry["fieldsV1"])), "field")
         version, here = entry.get("apiVersion"), self.value["apiVersion"]
         part = entry.get("subresource") or ""
-        if part and not (part == "status" and self.takes_status):
+        if part not in ("", "status"):
             self.report.add(name, f"the bench has no such part: left out, {count}", "entry")
             return None
         if version != here and not self.same_schema:

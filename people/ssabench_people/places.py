@@ -3,7 +3,8 @@
 The proved program has texts, whole numbers, truth values, records, maps of one kind and lists. A place that is none of these
 stands on the bench as the text of its compact JSON (`json`). An object that has named fields and takes others too is a record with
 one more field, OTHERS, which is the map of the others. What `metadata` has beside labels, annotations and finalizers stands in a
-field of the root, METADATA. Both names are no field's in any API.
+field of the root, METADATA. So does a status that is no subresource's, STATUS: a field `status` is a part of its own there. The
+three names are no field's in any API.
 """
 from dataclasses import dataclass, field
 
@@ -12,6 +13,7 @@ from .schemas import part
 
 OTHERS = "(others)"
 METADATA = "(metadata)"
+STATUS = "(status)"
 DEEPEST = 32
 SCALARS = ("text", "whole", "truth", "json")
 ENGINE_SCALARS = {"text": "string", "whole": "integer", "truth": "boolean", "json": "string"}
@@ -38,6 +40,7 @@ class Place:
     fill: dict = field(default_factory=dict)  # of a map list: the defaults of keys
     whole: bool = False  # of a record or map of one kind: atomic
     whole_items: bool = False  # of a map list: a server takes its items as atomic
+    plain_status: bool = False  # of a root: its status is written with all else
     real_paths: dict = field(default_factory=dict, compare=False, repr=False)  # of a root: what `real_path` found
     real_sets: dict = field(default_factory=dict, compare=False, repr=False)  # of a root: sets that were turned, by their texts
 
@@ -69,9 +72,12 @@ def root_of(schema):
     place.whole = False
     if place.kind == "dict":
         place = Place("record", rest=place.rest)
-    for name in (OTHERS, METADATA):
+    for name in (OTHERS, METADATA, STATUS):
         if name in place.fields:
             raise Refusal(f"the schema of {schema.kind} has a field {name}, which stands for something else on a bench")
+    if schema.has_status and place.rest:
+        place.fields.setdefault("status", place.rest)
+    place.plain_status = "status" in place.fields and not schema.has_status
     place.fields["metadata"] = metadata_place()
     return place
 
@@ -220,11 +226,17 @@ def _list_markers(place, inside):
 
 
 def engine_root(root):
-    """The schema of a bench: the root's own fields, and one more for what metadata has beside the program's own."""
+    """The schema of a bench: the root's own fields, and one more for what metadata has beside the program's own. A status that is
+    no subresource's has another name."""
     metadata = root.fields["metadata"]
     more = {name: child for name, child in metadata.fields.items() if name not in BENCH_METADATA}
     fields = {name: child for name, child in root.fields.items() if name != "metadata"}
+    if root.plain_status:
+        fields[STATUS] = fields.pop("status")
     return engine_schema(Place("record", fields=fields | {METADATA: Place("record", fields=more)}, rest=root.rest))
+
+
+PLAIN = ("why", "keys", "fill", "whole", "whole_items", "plain_status")  # what stands in the file as it is
 
 
 def to_json(place):
@@ -235,7 +247,7 @@ def to_json(place):
     for name in ("rest", "item"):
         if getattr(place, name):
             told[name] = to_json(getattr(place, name))
-    for name in ("why", "keys", "fill", "whole", "whole_items"):
+    for name in PLAIN:
         if getattr(place, name):
             told[name] = getattr(place, name)
     return told
@@ -244,5 +256,5 @@ def to_json(place):
 def from_json(told):
     fields = {name: from_json(child) for name, child in told.get("fields", {}).items()}
     rest, item = (from_json(told[name]) if name in told else None for name in ("rest", "item"))
-    plain = {name: told[name] for name in ("why", "keys", "fill", "whole", "whole_items") if name in told}
+    plain = {name: told[name] for name in PLAIN if name in told}
     return Place(told["kind"], fields=fields, rest=rest, item=item, **plain)

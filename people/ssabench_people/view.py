@@ -146,7 +146,7 @@ def _manifests(args):
     return [
         {
             "object": one["object"],
-            "manager": one["manager"],
+            "manager": one["manager"] + (f" through {one['subresource']}" if "subresource" in one else ""),
             "conflicts": [
                 {"way": conflict["way"], "owner": who(conflict["owner"]), "from": _text(conflict["from"]), "to": _text(conflict["to"])}
                 for conflict in one["conflicts"]

@@ -48,7 +48,7 @@ class Words:
         word = self.add(name, told, do, forms, aliases, statuses)
         word.add_argument("-f", "--filename", dest="file", required=True, metavar="FILE", help=FILE)
         word.add_argument("--field-manager", default=field_manager, metavar="NAME", help=f"who does it ({field_manager})")
-        word.add_argument("--subresource", choices=("status",), help="through which part it is done, where the program has it")
+        word.add_argument("--subresource", choices=("status",), help="the part of the object that it is done through")
         word.add_argument("--at", metavar="MOMENT", help="the moment, as 2024-05-01T10:00:00Z; now, where none is given")
         return word
 
@@ -96,7 +96,8 @@ def _add_view(words):
     view = words.add("view", "A page of the object, who owns what, and the history, as HTML.", "view.do_view")
     view.add_argument("-f", "--filename", dest="file", metavar="FILE", help="a manifest that is explained beside the object")
     view.add_argument("--field-manager", default="kubectl", metavar="NAME", help="who would apply it (kubectl)")
-    view.set_defaults(does="apply", subresource=None, at=None, force_conflicts=False, migrate=False)
+    view.add_argument("--subresource", choices=("status",), help="the part of the object that it would be applied through")
+    view.set_defaults(does="apply", at=None, force_conflicts=False, migrate=False)
 
 
 def _add_open(words):

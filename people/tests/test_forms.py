@@ -13,6 +13,7 @@ from test_speed import run
 HERE = os.path.dirname(os.path.realpath(__file__))
 AT = ("--at", "2024-05-01T10:00:01Z")
 OTHER = ("-f", "other.yaml", "--field-manager", "other")
+NINE = ("-f", "../status_taken/nine.yaml", "--subresource", "status")
 STEPS = (  # the form, the words, the status
     ("open", ("open", "--schema", "../kinds.yaml", "-f", "live.yaml"), 0),
     ("explain", ("explain", "-f", "team.yaml", "--field-manager", "team"), 0),
@@ -24,6 +25,9 @@ STEPS = (  # the form, the words, the status
     ("apply", ("apply", "-f", "team.yaml", "--field-manager", "team", *AT, "--force-conflicts"), 0),
     ("apply", ("apply", *OTHER, *AT, "--force-conflicts"), 0),
     ("update", ("update", "-f", "other.yaml", *AT), 0),
+    ("update", ("update", *NINE, *AT), 0),
+    ("explain", ("explain", *NINE, "--field-manager", "other"), 0),
+    ("apply", ("apply", *NINE, "--field-manager", "other", *AT), 0),
     ("strip", ("strip", "--dry-run"), 0),
     ("strip", ("strip",), 0),
     ("undo", ("undo",), 0),

@@ -75,7 +75,7 @@ class Measured(unittest.TestCase):
         turned, kept = to_bench_object(root, value, report)
         entries = Turning(root, value, report).entries(value["metadata"].get("managedFields") or [])
         turned["metadata"]["managedFields"] = entries
-        status, reply, lines = bench.make(self.name, root, turned, kept, schema.has_status)
+        status, reply, lines = bench.make(self.name, root, turned, kept)
         self.assertEqual(status, 0, (names, reply, lines))
         made = bench.Bench(self.name)
         back = made.live()
@@ -206,11 +206,11 @@ class Measured(unittest.TestCase):
         (value,) = real_kinds.read(packages.gocode("k8s.io/kubectl/testdata/apply/rc-managedfields-lastapplied.yaml"))
         back, entries, report = self.opened(documents, {"kind": "ReplicationController", "group": "", "version": "v1"}, value)
         self.same(value, back)
-        whole = [entry for entry in value["metadata"]["managedFields"] if "subresource" not in entry]
-        self.assertEqual(report.total("entry"), len(value["metadata"]["managedFields"]) - len(whole))
-        del whole[0]["fieldsV1"]["f:spec"]["f:template"]["f:metadata"]["f:creationTimestamp"]  # its value is a null
+        whole = value["metadata"]["managedFields"]
+        self.assertEqual((report.total("entry"), [entry.get("subresource") for entry in whole]), (0, ["status", None]))
+        del whole[1]["fieldsV1"]["f:spec"]["f:template"]["f:metadata"]["f:creationTimestamp"]  # its value is a null
         self.assertEqual(compact(entries), compact(whole))
-        said(f"kubectl's ReplicationController: {len(whole)} entries of {len(value['metadata']['managedFields'])}, the other is of a subresource")
+        said(f"kubectl's ReplicationController: {len(whole)} entries of {len(entries)}, one of them through the status")
 
 
 if __name__ == "__main__":

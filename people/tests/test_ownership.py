@@ -146,7 +146,7 @@ class Entries(unittest.TestCase):
         ]
         self.assertEqual(self.turned(*given), [])
         self.assertEqual(self.report.total("entry"), 7)
-        (kept,) = self.turned(entry({"f:spec": {"f:args": {}}}, subresource="status"), takes_status=True)
+        (kept,) = self.turned(entry({"f:spec": {"f:args": {}}}, subresource="status"))
         self.assertEqual(kept["subresource"], "status")
 
     def test_an_entry_without_a_time_is_shown_without_one(self):

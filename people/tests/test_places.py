@@ -165,8 +165,20 @@ class Schemas(unittest.TestCase):
         self.assertFalse(found([document | {"paths": {"/apis/apps/v1/d": verbs}}], "x", names).has_status)
         self.assertTrue(found([document | {"paths": {"/d": verbs, "/d/status": verbs}}], "x", names).has_status)
 
+    def test_a_status_has_its_own_name_where_it_is_no_subresources(self):
+        for has_status, name in ((True, "status"), (False, places.STATUS)):
+            root = root_of(KindSchema("", "v1", "X", record(status=record(ready=TEXT)), has_status=has_status))
+            self.assertEqual(sorted(engine_root(root)["properties"]), sorted([places.METADATA, name]))
+            self.assertEqual(from_json(to_json(root)), root)
+
+    def test_an_open_kind_has_a_status_where_it_is_a_subresources(self):
+        anything = {"type": "object", "x-kubernetes-preserve-unknown-fields": True}
+        for has_status in (True, False):
+            root = root_of(KindSchema("", "v1", "X", anything, has_status=has_status))
+            self.assertEqual("status" in engine_root(root)["properties"], has_status)
+
     def test_names_that_stand_for_something_else_are_refused(self):
-        for name in (OTHERS, places.METADATA):
+        for name in (OTHERS, places.METADATA, places.STATUS):
             with self.assertRaisesRegex(Refusal, "stands for something else"):
                 root_of(KindSchema("", "v1", "X", record(**{name: TEXT})))
 

@@ -25,7 +25,7 @@ class Readme(unittest.TestCase):
     maxDiff = None
 
     def test_the_first_screen(self):
-        _, commands = parted(first_screen())
+        commands = parted(first_screen())
         (first, _), *commands = commands
         self.assertEqual(first, "cd people/example; PATH=$PATH:..")
         self.assertGreater(len(commands), 5)

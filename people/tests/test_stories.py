@@ -1,8 +1,7 @@
 """The stories: transcripts of calls with what they print, written by hand from the rules.
 
 A folder of `stories` has files and `story.txt`: lines that begin with `$ ` are commands, those behind are what is printed on
-standard error and then on standard output, and `[status N]` where a command ends with another status than 0. A first line
-`# where WORDS` is a condition: `the program takes the status` or `the program takes no status`.
+standard error and then on standard output, and `[status N]` where a command ends with another status than 0.
 """
 import os
 import shutil
@@ -18,16 +17,14 @@ STORIES = os.path.join(HERE, "stories")
 
 
 def parted(text):
-    """The condition of a story, and its commands with what each is to print."""
-    lines = text.splitlines()
-    condition = lines.pop(0).removeprefix("# where ") if lines[0].startswith("# where ") else None
+    """The commands of a story, each with what it is to print."""
     commands = []
-    for line in lines:
+    for line in text.splitlines():
         if line.startswith("$ "):
             commands.append((line[2:], []))
         else:
             commands[-1][1].append(line)
-    return condition, commands
+    return commands
 
 
 def run(command, folder, environment):
@@ -42,9 +39,7 @@ class Stories(unittest.TestCase):
 
     def tell(self, name):
         with open(os.path.join(STORIES, name, "story.txt"), encoding="utf-8") as file:
-            condition, commands = parted(file.read())
-        if condition is not None and (condition == "the program takes the status") != engine.takes_status():
-            self.skipTest(f"told where {condition}")
+            commands = parted(file.read())
         self.assertTrue(commands)
         with tempfile.TemporaryDirectory(prefix="ssabench-story-") as place:
             shutil.copytree(STORIES, place, dirs_exist_ok=True)

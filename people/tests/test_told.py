@@ -17,7 +17,18 @@ from ssabench_people.view import page_data
 from ssabench_people.words import main
 
 EXAMPLE = os.path.join(os.path.dirname(os.path.dirname(os.path.realpath(__file__))), "example")
-STORIES, COMMANDS = 6, 7
+STORIES, COMMANDS = 8, 7
+SPEC = "        spec: {allOf:"
+STATUS = """        status:
+          type: object
+          properties:
+            replicas: {type: integer}
+            conditions:
+              type: array
+              items: {type: object, properties: {type: {type: string}, is: {type: boolean}}}
+              x-kubernetes-list-type: map
+              x-kubernetes-list-map-keys: [type]
+"""
 
 
 def run(*words):
@@ -54,8 +65,19 @@ def owners(shown, path):
         for text in path:
             node = node.get(text) if isinstance(node, dict) else None
         if node is not None and (node == {} or "." in node):
-            found.append((entry["manager"], entry["operation"]))
+            found.append(key(entry))
     return found
+
+
+def key(owner):
+    """An owner as its name, its operation and its part."""
+    return owner["manager"], owner["operation"], owner.get("subresource", "")
+
+
+def parts(shown):
+    """The status of an object, and all else but its managers."""
+    metadata = {name: value for name, value in shown["metadata"].items() if name != "managedFields"}
+    return {"status": shown.get("status"), "": {**shown, "metadata": metadata, "status": None}}
 
 
 class Told(unittest.TestCase):
@@ -66,7 +88,11 @@ class Told(unittest.TestCase):
         self.addCleanup(folder.cleanup)
         self.folder = folder.name
         shutil.copytree(EXAMPLE, self.folder, dirs_exist_ok=True)
-        self.bench, self.file = (os.path.join(self.folder, name) for name in ("web.bench", "manifest.json"))
+        self.bench, self.file, schema = (os.path.join(self.folder, name) for name in ("web.bench", "manifest.json", "apps.yaml"))
+        with open(schema, encoding="utf-8") as file:
+            text = file.read()
+        with open(schema, "w", encoding="utf-8") as file:
+            file.write(text.replace(SPEC, STATUS + SPEC, 1))
 
     def manifest(self, drawn):
         value = {"apiVersion": "apps/v1", "kind": "Deployment", "metadata": {"name": "web"}, "spec": {}}
@@ -78,6 +104,9 @@ class Told(unittest.TestCase):
         images = ({"image": f"{name}:{drawn.choice('12')}"} if drawn.random() < 0.7 else {} for name in names)
         if names:
             value["spec"]["template"] = {"spec": {"containers": [{"name": name} | image for name, image in zip(names, images)]}}
+        if drawn.random() < 0.6:
+            seen = [{"type": name, "is": drawn.random() < 0.5} for name in drawn.sample(("Up", "Ready"), drawn.randint(0, 2))]
+            value["status"] = {"replicas": drawn.choice((2, 3)), "conditions": seen}
         return value
 
     def write(self, value):
@@ -103,33 +132,43 @@ class Told(unittest.TestCase):
         self.assertEqual(commands, STORIES * COMMANDS)
 
     def one(self, drawn, number):
-        """A command: what was said of it before is what it then does. Gives its reply and who lost what it modified."""
-        manager, at = drawn.choice(("team", "other", "autoscaler")), ("--at", f"2024-05-01T10:00:0{number}Z")
+        """A command through one of the parts: what was said of it before is what it then does, and the other part stays as it was.
+        Gives its reply and who lost what it modified."""
+        manager, part = drawn.choice(("team", "other", "autoscaler")), drawn.choice(("", "", "status"))
         self.write(self.manifest(drawn))
         before = self.shown()
-        words = ("-f", self.file, "--field-manager", manager)
-        if drawn.random() < 0.3:
-            status, reply, told = run("update", *words, *at, "-o", "json", self.bench)
-            self.assertEqual(status, 0, told)
-            return reply, self.lost(before, reply, (manager, "Update"))
+        words = ("-f", self.file, "--field-manager", manager, *(("--subresource", part) if part else ()))
+        done = self.update if drawn.random() < 0.3 else self.apply
+        reply = done(before, words, ("--at", f"2024-05-01T10:00:0{number}Z"), (manager, done.__name__.capitalize(), part))
+        other = "" if part else "status"
+        self.assertEqual(parts(self.shown())[other], parts(before)[other])
+        return reply
+
+    def update(self, before, words, at, actor):
+        status, reply, told = run("update", *words, *at, "-o", "json", self.bench)
+        self.assertEqual(status, 0, told)
+        return reply, self.lost(before, reply, actor)
+
+    def apply(self, before, words, at, actor):
         status, explained, told = run("explain", *words, "-o", "json", self.bench)
         self.assertIsNotNone(explained, told)
         refused, conflicts, _ = run("apply", *words, *at, "-o", "json", self.bench)
         self.assertEqual(status, refused)
         (told,) = explained["manifests"]
-        said = {(tuple(one["path"]), one["owner"]["manager"]) for one in told["conflicts"]}
+        self.assertEqual(told.get("subresource", ""), actor[2])
+        said = {(tuple(one["path"]), key(one["owner"])) for one in told["conflicts"]}
         reply = conflicts
         if refused:
-            self.assertEqual({(tuple(path), one["manager"]) for one in conflicts["conflicts"] for path in one["fields"]}, said)
+            self.assertEqual({(tuple(path), key(one)) for one in conflicts["conflicts"] for path in one["fields"]}, said)
             status, reply, _ = run("apply", *words, *at, "--force-conflicts", "-o", "json", self.bench)
             self.assertEqual(status, 0)
-        taken = {(tuple(one["path"]), owner["manager"]) for one in told["changes"] if one["what"] == "modified" for owner in one.get("takenFrom", [])}
+        taken = {(tuple(one["path"]), key(owner)) for one in told["changes"] if one["what"] == "modified" for owner in one.get("takenFrom", [])}
         self.assertEqual(taken, said)
-        self.given_up(before, told["changes"], (manager, "Apply"))
+        self.given_up(before, told["changes"], actor)
         wanted, found = of_reply(reply), of_changes(told["changes"])
         self.assertEqual((found["added"], found["modified"]), (wanted["added"], wanted["modified"]))
         self.assertLessEqual(found["removed"], {tuple(path) for path in reply["removed"]})
-        return reply, self.lost(before, reply, (manager, "Apply"))
+        return reply, self.lost(before, reply, actor)
 
     def given_up(self, before, changes, actor):
         """What was told as given up was the applier's; it is gone, or stays for who owns it or something in it."""
@@ -139,7 +178,7 @@ class Told(unittest.TestCase):
                 self.assertIn(actor, owners(before, change["path"]))
                 self.assertNotIn(actor, owners(after, change["path"]))
                 if not change.get("goes"):
-                    keepers = [(owner["manager"], owner["operation"]) for owner in change["keptBy"]]
+                    keepers = [key(owner) for owner in change["keptBy"]]
                     self.assertTrue(keepers)
                     self.assertIn(owners(after, change["path"]), (keepers, []))
 
@@ -159,7 +198,7 @@ class Told(unittest.TestCase):
             self.assertEqual(of_changes(command["changes"]), of_reply(reply))
             for change in command["changes"]:
                 if change["what"] == "modified":
-                    taken = [(owner["manager"], owner["operation"]) for owner in change.get("takenFrom", [])]
+                    taken = [key(owner) for owner in change.get("takenFrom", [])]
                     self.assertEqual(taken, lost[tuple(change["path"])])
 
 
@@ -207,7 +246,7 @@ class Trees(unittest.TestCase):
         """Whether a node is a value with its owners, all the way down; metadata's sets aside."""
         part, text, numbers, children, is_item = data["nodes"][number]
         self.assertTrue(way.endswith(part))
-        self.assertEqual([data["managers"][one] for one in numbers], [f"{name} ({operation})" for name, operation in owners(shown, path)], way)
+        self.assertEqual([data["managers"][one] for one in numbers], [f"{name} ({operation})" for name, operation, _ in owners(shown, path)], way)
         if not children:
             self.assertEqual(json.loads(text), value, way)
             return

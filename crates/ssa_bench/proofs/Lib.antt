@@ -4,6 +4,7 @@ pub mod ReadBack
 pub mod TakenLines
 pub mod TakenStates
 pub mod LoadedParts
+pub mod LoadedHeads
 pub mod LoadedMoves
 pub mod LoadedBench
 pub mod ValidBench

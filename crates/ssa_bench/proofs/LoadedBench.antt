@@ -12,15 +12,13 @@ use Rattle.ssa_model.specs.laws.BenchFiles.{schema_in}
 use Rattle.ssa_model.specs.laws.Formats as formats
 use Rattle.ssa_model.specs.laws.Formats.{file_head, file_bench_in, file_fault, FilesAreTaken, TakenIsFile}
 use Rattle.ssa_model.specs.laws.LineByLine.{FilesAreRead, Next, Reader, after_part, after_value, along, at_end, at_last, at_place, ended_with, file_from, later_from, moves_from, next_value, no_value, on_from, preceded, rest_from, shown_in, steps_from, value_then, with_part}
-use Rattle.ssa_model.specs.laws.RecordedBenches.{MoveFault, no_move_text, record_does_not_fit}
+use Rattle.ssa_model.specs.laws.RecordedBenches.{Counts, MoveFault, no_move_text, record_does_not_fit}
 use Rattle.ssa_json.specs.Readings.{readings}
-use Rattle.ssa_file.specs.Heads.{head_view, place_view}
-use Rattle.ssa_file.specs.declared.head.FileHead.{FileHead}
+use Rattle.ssa_file.specs.Heads.{place_view}
 use Rattle.ssa_file.specs.declared.head.StatePlace.{StatePlace}
 use Rattle.ssa_lines.specs.declared.loading.LoadFault.{LoadFault}
 use Rattle.ssa_lines.specs.declared.loading.LoadFault.TheVariants.{BenchText, RecordDoesNotFit, Io, OutOfMemory}
 use Rattle.ssa_bench.specs.Loading.{IsRefused, Loads, ReadRefuses, ReadsAlong, ReadsAll, ReadsEnd, ReadsMoves, ReadsOn, ReadsPart, ReadsSteps, Walk}
-use Rattle.ssa_bench.specs.Taking.{held, held_head}
 
 -- what is read of all bytes from here is what this reader reads of those that are left
 abbrev pub ReachedFrom : Reader → ℕ → Option (List ℕ) → Option (List ℕ) → ℕ → Reader → Type 0
@@ -35,15 +33,15 @@ Reached = ReachedFrom (file_from readings) most_bench_bytes
 -- ---- what stands behind the parts
 
 -- behind the state that is shown
-abbrev pub behind_shown : FileHead → Bench → Reader
-behind_shown head = rest_from readings (head_view head)
+abbrev pub behind_shown : formats.FileHead → Bench → Reader
+behind_shown head = rest_from readings head
 
 -- behind the schema: the state that is shown, and the rest
-abbrev pub behind_schema : FileHead → Schema → Reader
-behind_schema head schema = with_part readings (shown_in readings (head_view head) schema) (behind_shown head)
+abbrev pub behind_schema : formats.FileHead → Schema → Reader
+behind_schema head schema = with_part readings (shown_in readings head schema) (behind_shown head)
 
 -- behind the head: the schema, and what follows it
-abbrev pub behind_head : FileHead → Reader
+abbrev pub behind_head : formats.FileHead → Reader
 behind_head head = with_part readings schema_in (behind_schema head)
 
 -- ---- from part to part
@@ -53,26 +51,10 @@ pub reached-start : (start : Reader) (most : ℕ) (a : Option (List ℕ)) → Re
 reached-start start most None = tt
 reached-start start most (Some xs) = refl
 
-held-same : (go : formats.FileHead → Reader) (ys : List ℕ) (left : ℕ) (o : Option formats.FileHead)
-    → after_part go o ys left ≡ after_part (λ h. go (head_view h)) (option_map held o) ys left
-held-same go ys left (Some (formats.of_states h)) = refl
-held-same go ys left (Some (formats.of_records c)) = refl
-held-same go ys left None = refl
-
-held-next : (go : formats.FileHead → Reader) (next : Next)
-    → after_value (λ v. after_part go (file_head v)) next ≡ after_value (λ v. after_part (λ h. go (head_view h)) (held_head v)) next
-held-next go at_end = refl
-held-next go no_value = refl
-held-next go (value_then v ys left) = held-same go ys left (file_head v)
-
--- what follows a head, as the definitions have it
-abbrev follows : formats.FileHead → Reader
-follows head = with_part readings schema_in (λ schema. with_part readings (shown_in readings head schema) (rest_from readings head))
-
 -- the file begins with its head
-pub reached-none : (a : Option (List ℕ)) → Reached a a most_bench_bytes (with_part readings held_head behind_head)
+pub reached-none : (a : Option (List ℕ)) → Reached a a most_bench_bytes (with_part readings file_head behind_head)
 reached-none None = tt
-reached-none (Some xs) = held-next follows (next_value readings most_bench_bytes xs)
+reached-none (Some xs) = refl
 
 -- where a part of the file is read, its reader has reached what stands behind the part
 pub reached-part : {X : Type 0} (take : Json → Option X) (go : X → Reader) (a b c : Option (List ℕ)) (room room_after : ℕ) (x : X)
@@ -143,42 +125,48 @@ module _ (place : StatePlace) (first last : Bench) (a b c : Option (List ℕ)) (
 -- ---- all records
 
 -- back along the past to a bench, on along the future to another, and to the end
-module _ (past future : ℕ) (first back last : Bench) (a b c d : Option (List ℕ)) (most room room_after : ℕ) where
+module _ (counts : Counts) (first back last : Bench) (a b c d : Option (List ℕ)) (most room room_after : ℕ) where
+  abbrev past : ℕ
+  past = counts.past
+
+  abbrev future : ℕ
+  future = counts.future
+
   abbrev start : Reader
-  start = moves_from readings past future first
+  start = moves_from readings counts first
 
   abbrev ends : Bench → Reader
   ends x = ended_with readings (at_place past x)
 
   abbrev WentBack : Type 0
-  WentBack = ReadsMoves preceded past a b most room first back (Ok tt)
+  WentBack = ReadsMoves counts.format preceded past a b most room first back (Ok tt)
 
   abbrev WentOn : Bench → Type 0
-  WentOn moved = ReadsMoves appended future b c room room_after moved last (Ok tt)
+  WentOn moved = ReadsMoves counts.format appended future b c room room_after moved last (Ok tt)
 
-  reached-back : WentBack → ReachedFrom start most a b room (on_from readings past future back)
-  reached-back h = reached-along start most (along readings preceded) (on_from readings past future) past a a b most room first back
+  reached-back : WentBack → ReachedFrom start most a b room (on_from readings counts back)
+  reached-back h = reached-along start most (along readings counts.format preceded) (on_from readings counts) past a a b most room first back
       (reached-start start most a) h
 
-  reached-on : (moved : Bench) → moved ≡ at_place past back → WentBack → ReachedFrom start most a b room (along readings appended ends future moved)
-  reached-on moved is h = subst (λ x. ReachedFrom start most a b room (along readings appended ends future x)) (sym is) (reached-back h)
+  reached-on : (moved : Bench) → moved ≡ at_place past back → WentBack → ReachedFrom start most a b room (along readings counts.format appended ends future moved)
+  reached-on moved is h = subst (λ x. ReachedFrom start most a b room (along readings counts.format appended ends future x)) (sym is) (reached-back h)
 
   reached-last : (moved : Bench) → moved ≡ at_place past back → WentBack → WentOn moved → ReachedFrom start most a c room_after (ends last)
   reached-last moved is h k =
-      reached-along start most (along readings appended) ends future a b c room room_after moved last (reached-on moved is h) k
+      reached-along start most (along readings counts.format appended) ends future a b c room room_after moved last (reached-on moved is h) k
 
   -- where a line of the past is refused, so are they
-  pub past-refused : (f : LoadFault) → ReadsMoves preceded past a b most room first back (Err f) → ReadsOn start a b most back (Err f)
+  pub past-refused : (f : LoadFault) → ReadsMoves counts.format preceded past a b most room first back (Err f) → ReadsOn start a b most back (Err f)
   past-refused f h =
       all-refused start a a b most most start f (reached-start start most a)
-      (λ ys is. subst (λ o. ReadsMoves preceded past o b most room first back (Err f)) is h (on_from readings past future))
+      (λ ys is. subst (λ o. ReadsMoves counts.format preceded past o b most room first back (Err f)) is h (on_from readings counts))
 
   -- where a line of the future is refused, so are they
   pub future-refused : (f : LoadFault) (moved : Bench) → moved ≡ at_place past back → WentBack
-      → ReadsMoves appended future b c room room_after moved last (Err f) → ReadsOn start a c most last (Err f)
+      → ReadsMoves counts.format appended future b c room room_after moved last (Err f) → ReadsOn start a c most last (Err f)
   future-refused f moved is h k =
-      all-refused start a b c most room (along readings appended ends future moved) f (reached-on moved is h)
-      (λ ys there. subst (λ o. ReadsMoves appended future o c room room_after moved last (Err f)) there k ends)
+      all-refused start a b c most room (along readings counts.format appended ends future moved) f (reached-on moved is h)
+      (λ ys there. subst (λ o. ReadsMoves counts.format appended future o c room room_after moved last (Err f)) there k ends)
 
   -- where something stands behind the last line, or the source fails there, they are refused
   pub end-refused : (f : LoadFault) (moved : Bench) → moved ≡ at_place past back → WentBack → WentOn moved → ReadsEnd c d room_after (Err f)

@@ -1,12 +1,13 @@
 -- Laws of loading the lines along which a bench goes, one after the other.
 use Rattle.std.proofs.Common.{◌≡◌, ◌<◌, ◌+◌, ◌-◌, ℕ, suc, List, Option, Some, None, refl, sym, ap, subst, ◌∙◌, arith}
 use Rattle.std.specs.Prelude.{Result, Ok, Err}
+use Rattle.ssa_model.specs.definitions.BenchText.{Format}
 use Rattle.ssa_model.specs.definitions.Json.{Json}
 use Rattle.ssa_model.specs.definitions.Operations.{State}
 use Rattle.ssa_model.specs.definitions.History.{Bench, Label, Step, present}
 use Rattle.ssa_model.specs.laws.BenchFiles.{step_in}
 use Rattle.ssa_model.specs.laws.LineByLine.{Move, Reader, after_move, after_part, after_value, along, gone_on, moved_by, steps_from, with_value}
-use Rattle.ssa_model.specs.laws.RecordedBenches.{MoveFault, value_move}
+use Rattle.ssa_model.specs.laws.RecordedBenches.{MoveFault, told_value}
 use Rattle.ssa_json.specs.Readings.{readings}
 use Rattle.ssa_json.specs.View.{view}
 use Rattle.ssa_lines.specs.declared.loading.FileLine.{FileLine}
@@ -75,19 +76,19 @@ module _ (walk : Walk) (onward : Onward)
 
 -- ---- moves
 
-abbrev move_onward : Move → Onward
-move_onward move go n bench v = after_move (λ m. along readings move go n (moved_by move bench m)) (value_move readings bench (present bench.timeline) v)
+abbrev move_onward : Format → Move → Onward
+move_onward f move go n bench v = after_move (λ m. along readings f move go n (moved_by move bench m)) (told_value readings f bench (present bench.timeline) v)
 
 -- one move more was read
-pub went-more : (move : Move) (count done : ℕ) (a b c : Option (List ℕ)) (room room_left room_after : ℕ) (old bench next : Bench) (l : FileLine)
-    → done < count → Went (along readings move) count done a b room room_left old bench → ReadsLine b c room_left room_after (Ok l)
-    → MovesBy move bench next (Ok tt) (view l.value)
-    → Went (along readings move) count (done + 1) a c room room_after old next
-went-more move count done a b c room room_left room_after old bench next l less went line moved =
+pub went-more : (f : Format) (move : Move) (count done : ℕ) (a b c : Option (List ℕ)) (room room_left room_after : ℕ) (old bench next : Bench) (l : FileLine)
+    → done < count → Went (along readings f move) count done a b room room_left old bench → ReadsLine b c room_left room_after (Ok l)
+    → MovesBy f move bench next (Ok tt) (view l.value)
+    → Went (along readings f move) count (done + 1) a c room room_after old next
+went-more f move count done a b c room room_left room_after old bench next l less went line moved =
     let left = count - (done + 1) in
-    more (along readings move) (move_onward move) (λ go n b xs room. refl) count done less a b c room room_left room_after old bench next l went line
-    (λ go rest. ap (λ (r : Result (Label × State) MoveFault). after_move (λ m. along readings move go left (moved_by move bench m)) r rest room_after) moved.1
-    ∙ ap (λ b. along readings move go left b rest room_after) (sym moved.2))
+    more (along readings f move) (move_onward f move) (λ go n b xs room. refl) count done less a b c room room_left room_after old bench next l went line
+    (λ go rest. ap (λ (r : Result (Label × State) MoveFault). after_move (λ m. along readings f move go left (moved_by move bench m)) r rest room_after) moved.1
+    ∙ ap (λ b. along readings f move go left b rest room_after) (sym moved.2))
 
 -- where one result has each fault of the other, a reader with this result refuses for the same reason
 pub refuses-as : {X Y : Type 0} (f : LoadFault) (r : Result X MoveFault) (s : Result Y MoveFault) → ((g : MoveFault) → r ≡ Err g → s ≡ Err g) → Refuses f r
@@ -98,23 +99,23 @@ refuses-as Io r s on h = absurd h
 refuses-as OutOfMemory r s on h = tt
 
 -- no line of a move stands next
-pub went-unread : (move : Move) (count done : ℕ) (a b c : Option (List ℕ)) (room room_left room_after : ℕ) (old bench new : Bench) (f : LoadFault)
-    → done < count → Went (along readings move) count done a b room room_left old bench → ReadsLine b c room_left room_after (Err f)
-    → ReadsMoves move count a c room room_after old new (Err f)
-went-unread move count done a b c room room_left room_after old bench new f less went line =
-    unread (along readings move) (move_onward move) (λ go n b xs room. refl) count done less a b c room room_left room_after old bench new f went line
+pub went-unread : (f : Format) (move : Move) (count done : ℕ) (a b c : Option (List ℕ)) (room room_left room_after : ℕ) (old bench new : Bench) (e : LoadFault)
+    → done < count → Went (along readings f move) count done a b room room_left old bench → ReadsLine b c room_left room_after (Err e)
+    → ReadsMoves f move count a c room room_after old new (Err e)
+went-unread f move count done a b c room room_left room_after old bench new e less went line =
+    unread (along readings f move) (move_onward f move) (λ go n b xs room. refl) count done less a b c room room_left room_after old bench new e went line
 
 -- the line of a move that stands next is refused
-pub went-refused : (move : Move) (count done : ℕ) (a b c : Option (List ℕ)) (room room_left room_after : ℕ) (old bench next : Bench) (l : FileLine)
-    (f : LoadFault)
-    → done < count → Went (along readings move) count done a b room room_left old bench → ReadsLine b c room_left room_after (Ok l)
-    → MovesBy move bench next (Err f) (view l.value)
-    → ReadsMoves move count a c room room_after old next (Err f)
-went-refused move count done a b c room room_left room_after old bench next l f less went line moved =
+pub went-refused : (f : Format) (move : Move) (count done : ℕ) (a b c : Option (List ℕ)) (room room_left room_after : ℕ) (old bench next : Bench) (l : FileLine)
+    (e : LoadFault)
+    → done < count → Went (along readings f move) count done a b room room_left old bench → ReadsLine b c room_left room_after (Ok l)
+    → MovesBy f move bench next (Err e) (view l.value)
+    → ReadsMoves f move count a c room room_after old next (Err e)
+went-refused f move count done a b c room room_left room_after old bench next l e less went line moved =
     let left = count - (done + 1) in
-    refused (along readings move) (move_onward move) (λ go n b xs room. refl) count done less a b c room room_left room_after old bench next l f went line
-    (λ go rest. refuses-as f (value_move readings bench (present bench.timeline) (view l.value)) (move_onward move go left bench (view l.value) rest room_after)
-    (λ g e. ap (λ (r : Result (Label × State) MoveFault). after_move (λ m. along readings move go left (moved_by move bench m)) r rest room_after) e)
+    refused (along readings f move) (move_onward f move) (λ go n b xs room. refl) count done less a b c room room_left room_after old bench next l e went line
+    (λ go rest. refuses-as e (told_value readings f bench (present bench.timeline) (view l.value)) (move_onward f move go left bench (view l.value) rest room_after)
+    (λ g e. ap (λ (r : Result (Label × State) MoveFault). after_move (λ m. along readings f move go left (moved_by move bench m)) r rest room_after) e)
     moved)
 
 -- ---- later states

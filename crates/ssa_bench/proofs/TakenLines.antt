@@ -1,12 +1,14 @@
 -- Laws of taking a bench from the lines of its file, one by one.
-use Rattle.std.proofs.Common.{◌≡◌, ◌<◌, ℕ, List, [], ◌∷◌, length, take, Bool, true, false, ◌&&◌, Option, Some, None, refl, sym, ap, ◌∙◌, arith}
+use Rattle.std.proofs.Common.{◌≡◌, ◌<◌, ℕ, List, [], ◌∷◌, length, take, Bool, true, false, not, ◌&&◌, ◌||◌, Option, Some, None, refl, sym, ap, ◌∙◌, arith}
 use Rattle.std.specs.List.{All}
 use Rattle.std.proofs.lemmas.List.Elements.{All-cons, All-head, All-tail, All-take}
 use Rattle.std.proofs.lemmas.Option.{none-some}
-use Rattle.std.specs.Prelude.{codes, Result, Ok, Err}
+use Rattle.std.specs.Prelude.{codes, if◌then◌else◌, Result, Ok, Err}
 use Rattle.ssa_model.specs.definitions.Json.{Json, compact, same_text, member_at}
+use Rattle.ssa_model.specs.definitions.BenchText.{Format}
 use Rattle.ssa_model.specs.definitions.Commands.{value_in}
 use Rattle.ssa_model.specs.definitions.Entries.{text_json, version_in}
+use Rattle.ssa_model.specs.definitions.Formats.{can_tell_line, tells_parts}
 use Rattle.ssa_model.specs.definitions.Kind.{Kind}
 use Rattle.ssa_model.specs.definitions.Limits.{most_past}
 use Rattle.ssa_model.specs.definitions.MemberNames.{has_rising_names}
@@ -21,10 +23,11 @@ use Rattle.ssa_model.specs.definitions.RecordReading.{Test, has_members, is_reco
 use Rattle.ssa_model.specs.definitions.RecordText.{record_json}
 use Rattle.ssa_model.specs.definitions.RecordedBench.{HasReadHistory, HasReadStep}
 use Rattle.ssa_model.specs.definitions.Table.{Table}
+use Rattle.ssa_model.specs.definitions.ToldParts.{has_subresource, tells_subresource}
 use Rattle.ssa_model.specs.definitions.Valid.{AllEntries, IsValidHistory, IsValidState, KeepsOrder, MakesNamed, MakesValid, is_named}
 use Rattle.ssa_model.specs.laws.BenchFiles.{given_if, is_label, is_written_as, label_in, said_label, schema_in}
 use Rattle.ssa_model.specs.laws.LineByLine.{preceded}
-use Rattle.ssa_model.specs.laws.RecordedBenches.{is_label_shape, is_move_shape, no_move_text, record_does_not_fit, value_move}
+use Rattle.ssa_model.specs.laws.RecordedBenches.{is_label_shape, is_move_shape, MoveFault, no_move_text, record_does_not_fit, told_value, value_move}
 use Rattle.ssa_model.specs.laws.RecordedMoves.{IsReadBackState, LineIsMove, LineOfParts, MisfitIsTold, ShapelessIsNoMove, TellsLines}
 use Rattle.ssa_model.proofs.Given.{given-back}
 use Rattle.ssa_model.proofs.RecordsBack.{record_texts_have_shape}
@@ -154,11 +157,41 @@ record-value : (bench : Bench) (l : LineValues) (v : Json) (from to : State) →
     → view l.record.now ≡ record_json (version_in bench.identity.version) bench.schema.kind (record_of from to)
 record-value bench l v from to line is = ap value_in (sym line.written) ∙ is
 
+-- ---- what the format of a line can tell
+
+abbrev told_if : Bool → Result (Label × State) MoveFault → Result (Label × State) MoveFault
+told_if b r = if b then r else Err no_move_text
+
+-- a line of which the format cannot tell is no move's text
+pub untold : (f : Format) (bench : Bench) (s : State) (v : Json) → can_tell_line f v ≡ false → told_value readings f bench s v ≡ Err no_move_text
+untold f bench s v h = ap (λ b. told_if b (value_move readings bench s v)) h
+
+-- one of which it can tell is told as in any
+told-as : (f : Format) (bench : Bench) (s : State) (v : Json) → can_tell_line f v ≡ true → told_value readings f bench s v ≡ value_move readings bench s v
+told-as f bench s v h = ap (λ b. told_if b (value_move readings bench s v)) h
+
+-- what is no move's text is none in any format
+never-told : (f : Format) (bench : Bench) (s : State) (v : Json) → value_move readings bench s v ≡ Err no_move_text
+    → told_value readings f bench s v ≡ Err no_move_text
+never-told f bench s v h = by (can_tell_line f v)
+  where
+    by : (b : Bool) → told_if b (value_move readings bench s v) ≡ Err no_move_text
+    by true = h
+    by false = refl
+
+-- whether the format can tell of a line is told by its command and its record
+pub line-can-tell : (f : Format) (l : LineValues) (v : Json) → IsLine l v
+    → (tells_parts f || not (has_subresource (view l.command.now) || tells_subresource (view l.record.now))) ≡ can_tell_line f v
+line-can-tell f l v line =
+    sym (λ i. tells_parts f || not (has_subresource (value_in (line.command i)) || tells_subresource (value_in (line.written i))))
+
 -- a line that has not the shape of a move is refused as no move's text
-pub shapeless-told : (bench : Bench) (v : Json) → ShapelessIsNoMove → IsValidBench readings bench → HasReadHistory readings bench.timeline
+pub shapeless-told : (f : Format) (bench : Bench) (v : Json) → ShapelessIsNoMove → IsValidBench readings bench → HasReadHistory readings bench.timeline
     → is_move_shape readings v ≡ false
-    → value_move readings bench (present bench.timeline) v ≡ Err no_move_text
-shapeless-told bench v told valid read shape = told readings bench (present bench.timeline) v (lines-told bench valid) (present-read bench valid read) shape
+    → told_value readings f bench (present bench.timeline) v ≡ Err no_move_text
+shapeless-told f bench v told valid read shape =
+    never-told f bench (present bench.timeline) v
+    (told readings bench (present bench.timeline) v (lines-told bench valid) (present-read bench valid read) shape)
 
 -- whatever is tested, the value is no line
 pub no-line : (v : Json) → ((s t : Test) → has_members (line_shape s t) v ≡ false) → is_move_shape readings v ≡ false
@@ -183,12 +216,12 @@ misfit-told bench l v label version told valid read named line written misfit =
     }))
 
 -- the line whose record was made ready is that of the move
-pub move-told : (bench : Bench) (l : LineValues) (v : Json) (label : labels.Label) (version : List ℕ) (d : StateDelta) (w : State) → LineIsMove → LineOfParts
+pub move-told : (f : Format) (bench : Bench) (l : LineValues) (v : Json) (label : labels.Label) (version : List ℕ) (d : StateDelta) (w : State) → LineIsMove → LineOfParts
     → IsValidBench readings bench → HasReadHistory readings bench.timeline → version_in bench.identity.version ≡ text_json version → has_rising_names v ≡ true
     → IsLine l v → written_label (view l.command.now) ≡ Some (label_view label) → is_record_shape readings (view l.record.now) ≡ true
-    → IsFitting bench.schema.kind version (present bench.timeline) w (view l.record.now) d
-    → IsToldMove bench (record { label = label; delta = d }) v w
-move-told bench l v label version d w moves parts valid read named rise line written shape fitting =
+    → IsFitting bench.schema.kind version (present bench.timeline) w (view l.record.now) d → can_tell_line f v ≡ true
+    → IsToldMove f bench (record { label = label; delta = d }) v w
+move-told f bench l v label version d w moves parts valid read named rise line written shape fitting tells =
     let now = present bench.timeline in
     let kind = bench.schema.kind in
     let here = present-read bench valid read in
@@ -198,7 +231,7 @@ move-told bench l v label version d w moves parts valid read named rise line wri
     let whole = parts readings bench (label_view label) now w v (has-shape l v (label_view label) line written shape) rise said is in
     let there : IsReadBackState readings kind w = record { valid = fitting.takes.to; paths = fitting.read.paths; table = fitting.table } in
     record {
-      move = ap (value_move readings bench now) whole.0 ∙ moves readings bench (label_view label) now w (lines-told bench valid) whole.1 here there
+      move = told-as f bench now v tells ∙ ap (value_move readings bench now) whole.0 ∙ moves readings bench (label_view label) now w (lines-told bench valid) whole.1 here there
           fitting.takes.order;
       takes = fitting.takes;
       room = fitting.room;
@@ -207,16 +240,17 @@ move-told bench l v label version d w moves parts valid read named rise line wri
     }
 
 -- what is told of a line whose record was looked at
-pub told-answer : (bench : Bench) (l : LineValues) (v : Json) (label : labels.Label) (version : List ℕ) → LineIsMove → ShapelessIsNoMove → MisfitIsTold
+pub told-answer : (f : Format) (bench : Bench) (l : LineValues) (v : Json) (label : labels.Label) (version : List ℕ) → LineIsMove → ShapelessIsNoMove → MisfitIsTold
     → LineOfParts
     → IsValidBench readings bench → HasReadHistory readings bench.timeline → version_in bench.identity.version ≡ text_json version → has_rising_names v ≡ true
-    → IsLine l v → written_label (view l.command.now) ≡ Some (label_view label)
-    → (a : RecordAnswer) → IsAnswer bench.schema.kind version (present bench.timeline) (view l.record.now) a → TellsMove bench (answered_step label a) v
-told-answer bench l v label version moves shapeless misfits parts valid read named rise line written NoRecord h =
-    shapeless-told bench v shapeless valid read (no-record l v line h)
-told-answer bench l v label version moves shapeless misfits parts valid read named rise line written Misfit h =
-    misfit-told bench l v (label_view label) version misfits valid read named line written h
-told-answer bench l v label version moves shapeless misfits parts valid read named rise line written (Fits d) h =
+    → IsLine l v → written_label (view l.command.now) ≡ Some (label_view label) → can_tell_line f v ≡ true
+    → (a : RecordAnswer) → IsAnswer bench.schema.kind version (present bench.timeline) (view l.record.now) a → TellsMove f bench (answered_step label a) v
+told-answer f bench l v label version moves shapeless misfits parts valid read named rise line written tells NoRecord h =
+    shapeless-told f bench v shapeless valid read (no-record l v line h)
+told-answer f bench l v label version moves shapeless misfits parts valid read named rise line written tells Misfit h =
+    told-as f bench (present bench.timeline) v tells
+    ∙ misfit-told bench l v (label_view label) version misfits valid read named line written h
+told-answer f bench l v label version moves shapeless misfits parts valid read named rise line written tells (Fits d) h =
     let w = h.0 in
     let fitting = h.1 in
     let now = present bench.timeline in
@@ -225,7 +259,7 @@ told-answer bench l v label version moves shapeless misfits parts valid read nam
     let from : IsReadState readings now = record { paths = here.paths; moments = moments-read now.table here.table } in
     let shape = ap (is_record_shape readings) (fitting.value ∙ ap (record_json (text_json version) kind) fitting.takes.is)
     ∙ record_texts_have_shape readings version kind now w here.valid fitting.takes.to from fitting.read in
-    (w, move-told bench l v label version d w moves parts valid read named rise line written shape fitting)
+    (w, move-told f bench l v label version d w moves parts valid read named rise line written shape fitting tells)
 
 -- ---- the history behind a move
 

@@ -5,39 +5,23 @@ use Rattle.std.proofs.lemmas.Option.{none-some}
 use Rattle.std.specs.Prelude.{codes, Result, Ok, Err}
 use Rattle.ssa_model.specs.definitions.Answers as model
 use Rattle.ssa_model.specs.definitions.Answers.{file_state}
-use Rattle.ssa_model.specs.definitions.BenchText.{step_json}
+use Rattle.ssa_model.specs.definitions.BenchText.{states, step_json}
+use Rattle.ssa_model.specs.definitions.Formats.{can_tell_label, can_tell_state}
 use Rattle.ssa_model.specs.definitions.Commands.{value_in}
 use Rattle.ssa_model.specs.definitions.History.{Bench, Label, applied, updated, stripped, Step, is_manager_name}
 use Rattle.ssa_model.specs.definitions.Json.{Json, member_at}
 use Rattle.ssa_model.specs.definitions.Operations.{State}
 use Rattle.ssa_model.specs.definitions.Valid.{KeepsOrder, is_named}
 use Rattle.ssa_model.specs.laws.BenchFiles.{given_if, is_label, is_written_as, keeps_order, label_in, object_in, said_label, step_in, step_with}
-use Rattle.ssa_model.specs.laws.Formats as formats
-use Rattle.ssa_model.specs.laws.Formats.{file_head}
 use Rattle.ssa_model.proofs.Given.{given-back, and_then-back}
 use Rattle.ssa_model.proofs.TakenOfWritten.{keeps_order-by}
 use Rattle.ssa_json.specs.Readings.{readings}
-use Rattle.ssa_file.specs.Heads.{head_view}
-use Rattle.ssa_file.specs.declared.head.FileHead.{FileHead}
-use Rattle.ssa_file.specs.declared.head.FileHead.TheVariants.{States, Records}
-use Rattle.ssa_bench.specs.Taking.{held, held_head}
-
--- ---- the head
-
-held-back : (found : Option FileHead) → option_map held (option_map head_view found) ≡ found
-held-back None = refl
-held-back (Some (States p)) = refl
-held-back (Some (Records c)) = refl
-
--- the head that was found in a value is the one that the program holds of it
-pub head-held : (found : Option FileHead) (v : Json) → option_map head_view found ≡ file_head v → held_head v ≡ found
-head-held found v e = ap (option_map held) (sym e) ∙ held-back found
 
 -- ---- the label
 
 label-named : (l : Label) → is_label readings l ≡ true → is_named l ≡ true
-label-named (applied who force at) h = (and_parts (is_manager_name who) (readings.moment at) h).0
-label-named (updated who at) h = (and_parts (is_manager_name who) (readings.moment at) h).0
+label-named (applied who force at) h = (and_parts (is_manager_name who.name) (readings.moment at) h).0
+label-named (updated who at) h = (and_parts (is_manager_name who.name) (readings.moment at) h).0
 label-named stripped h = refl
 
 said-named : (v : Json) (l : Label) → label_in readings v ≡ Some l → is_named l ≡ true
@@ -57,9 +41,11 @@ module _ (bench : Bench) (before : State) (v : Json) where
       → elim r [ Ok state ↦ step_with bench before v l state | Err f ↦ None ] ≡ Some s → MayFollow before s
   by-state l (Ok state) s named h =
       let made : Step = record { label = l; state = state } in
-      let got = given-back (is_written_as (step_json bench made) v && keeps_order before.table state.table) made s h in
-      let both = and_parts (is_written_as (step_json bench made) v) (keeps_order before.table state.table) got.0 in
-      subst (MayFollow before) got.1 (record { order = keeps_order-by before.table state.table both.1; named = named })
+      let tells = can_tell_label states l && can_tell_state states state in
+      let got = given-back (is_written_as (step_json bench made) v && (keeps_order before.table state.table && tells)) made s h in
+      let both = and_parts (is_written_as (step_json bench made) v) (keeps_order before.table state.table && tells) got.0 in
+      let kept = and_parts (keeps_order before.table state.table) tells both.1 in
+      subst (MayFollow before) got.1 (record { order = keeps_order-by before.table state.table kept.0; named = named })
   by-state l (Err f) s named h = absurd (none-some s h)
 
   -- a step that is taken of a line behind a state may follow it

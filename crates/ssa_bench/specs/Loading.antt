@@ -4,10 +4,13 @@ use Rattle.ssa_model.specs.definitions.BenchText.{Format}
 use Rattle.ssa_model.specs.definitions.Formats.{IsFile}
 use Rattle.ssa_model.specs.definitions.Json.{Json}
 use Rattle.ssa_model.specs.definitions.History.{Bench}
-use Rattle.ssa_model.specs.laws.Formats.{file_fault}
+use Rattle.ssa_model.specs.laws.Formats as formats
+use Rattle.ssa_model.specs.laws.Formats.{file_head, file_fault}
 use Rattle.ssa_model.specs.laws.LineByLine.{Move, Reader, along, at_end, ended_with, next_value, steps_from, with_part, with_value}
 use Rattle.ssa_model.specs.laws.RecordedBenches.{MoveFault, no_move_text, record_does_not_fit}
 use Rattle.ssa_json.specs.Readings.{readings}
+use Rattle.ssa_file.specs.Heads.{head_view}
+use Rattle.ssa_file.specs.declared.head.FileHead.{FileHead}
 use Rattle.ssa_lines.specs.Loading.{IsNextLine}
 use Rattle.ssa_lines.specs.declared.loading.FileLine.{FileLine}
 use Rattle.ssa_lines.specs.declared.loading.LoadFault.{LoadFault}
@@ -39,6 +42,11 @@ ReadsPart take None after room room_after r = Unit {0}
 ReadsPart take (Some xs) after room room_after (Ok x) = IsPart take xs after room room_after x
 ReadsPart {X = X} take (Some xs) after room room_after (Err f) = (go : X → Reader) → ReadRefuses f (with_part readings take go xs room)
 
+-- the head is taken of the first line
+abbrev pub ReadsHead : Option (List ℕ) → Option (List ℕ) → ℕ → ℕ → Result FileHead LoadFault → Type 0
+ReadsHead before after room room_after (Ok h) = ReadsPart file_head before after room room_after (Ok (head_view h))
+ReadsHead before after room room_after (Err f) = ReadsPart {X = formats.FileHead} file_head before after room room_after (Err f)
+
 -- ---- lines along which a bench goes
 
 -- how so many lines are read from a bench on, and then what stands behind them
@@ -56,9 +64,9 @@ ReadsAlong walk count None after room room_after old new r = Unit {0}
 ReadsAlong walk count (Some xs) after room room_after old new (Ok u) = HasGone walk count xs after room room_after old new
 ReadsAlong walk count (Some xs) after room room_after old new (Err f) = (go : Bench → Reader) → ReadRefuses f (walk go count old xs room)
 
--- the lines of moves
-abbrev pub ReadsMoves : Move → ℕ → Option (List ℕ) → Option (List ℕ) → ℕ → ℕ → Bench → Bench → Result (Unit {0}) LoadFault → Type 0
-ReadsMoves move = ReadsAlong (along readings move)
+-- the lines of moves in a format
+abbrev pub ReadsMoves : Format → Move → ℕ → Option (List ℕ) → Option (List ℕ) → ℕ → ℕ → Bench → Bench → Result (Unit {0}) LoadFault → Type 0
+ReadsMoves f move = ReadsAlong (along readings f move)
 
 -- the lines of later states
 abbrev pub ReadsSteps : ℕ → Option (List ℕ) → Option (List ℕ) → ℕ → ℕ → Bench → Bench → Result (Unit {0}) LoadFault → Type 0

@@ -1,5 +1,6 @@
 -- What is taken of the lines of a bench file, and how a refusal is told.
-use Rattle.std.specs.Prelude.{◌≡◌, true, Option, Some, None, option_map, Result, Ok, Err}
+use Rattle.std.specs.Prelude.{◌≡◌, true, Option, Some, None, Result, Ok, Err}
+use Rattle.ssa_model.specs.definitions.BenchText.{Format}
 use Rattle.ssa_model.specs.definitions.Json.{Json}
 use Rattle.ssa_model.specs.definitions.Operations as model
 use Rattle.ssa_model.specs.definitions.History.{Bench, Label, present}
@@ -10,10 +11,10 @@ use Rattle.ssa_model.specs.laws.BenchFiles.{given_if, said_label, step_in}
 use Rattle.ssa_model.specs.laws.Formats as formats
 use Rattle.ssa_model.specs.laws.Formats.{file_head}
 use Rattle.ssa_model.specs.laws.LineByLine.{Move, moved_by, gone_on}
-use Rattle.ssa_model.specs.laws.RecordedBenches.{is_label_shape, MoveFault, no_move_text, record_does_not_fit, value_move}
+use Rattle.ssa_model.specs.laws.RecordedBenches.{is_label_shape, MoveFault, no_move_text, record_does_not_fit, told_value}
 use Rattle.ssa_json.specs.Readings.{readings}
 use Rattle.ssa_file.specs.declared.head.FileHead.{FileHead}
-use Rattle.ssa_file.specs.declared.head.FileHead.TheVariants.{States, Records}
+use Rattle.ssa_file.specs.Heads.{head_view}
 use Rattle.ssa_lines.specs.declared.loading.LoadFault.{LoadFault}
 use Rattle.ssa_lines.specs.declared.loading.LoadFault.TheVariants.{BenchText, RecordDoesNotFit, Io}
 use Rattle.ssa_lines.specs.declared.loading.LoadFault.TheVariants as load
@@ -60,14 +61,10 @@ Refuses load.OutOfMemory r = Unit {0}
 
 -- ---- the head
 
--- a head, as the program holds it
-abbrev pub held : formats.FileHead → FileHead
-held (formats.of_states h) = States (record { place = h.place; states = h.states })
-held (formats.of_records c) = Records (record { past = c.past; future = c.future })
-
 -- the head of a first line's value
-abbrev pub held_head : Json → Option FileHead
-held_head v = option_map held (file_head v)
+abbrev pub TakesHead : Result FileHead LoadFault → Json → Type 0
+TakesHead (Ok h) v = IsTaken (Ok (head_view h)) (file_head v)
+TakesHead (Err f) v = IsTaken {X = formats.FileHead} (Err f) (file_head v)
 
 -- ---- the line of a later state
 
@@ -97,20 +94,20 @@ answered_step label NoRecord = Err BenchText
 answered_step label Misfit = Err RecordDoesNotFit
 answered_step label (Fits d) = Ok (record { label = label; delta = d })
 
--- the command of a line, and the record of the way from the present state, with room for it
-pub record IsToldMove (bench : Bench) (s : Step) (v : Json) (w : model.State) : Type 0 where
-  pub move : value_move readings bench (present bench.timeline) v ≡ Ok (label_view s.label, w)
+-- the command of a line of the format, and the record of the way from the present state, with room for it
+pub record IsToldMove (f : Format) (bench : Bench) (s : Step) (v : Json) (w : model.State) : Type 0 where
+  pub move : told_value readings f bench (present bench.timeline) v ≡ Ok (label_view s.label, w)
   pub takes : Takes bench.schema.kind (state_steps s.delta) (present bench.timeline) w
   pub room : HasStateRoom s.delta (present bench.timeline)
   pub back : HasTableBack w
   pub named : is_named (label_view s.label) ≡ true
 
 -- a line tells such a move, or is refused
-abbrev pub TellsMove : Bench → Result Step LoadFault → Json → Type 0
-TellsMove bench (Ok s) v = (w : model.State) × IsToldMove bench s v w
-TellsMove bench (Err f) v = Refuses f (value_move readings bench (present bench.timeline) v)
+abbrev pub TellsMove : Format → Bench → Result Step LoadFault → Json → Type 0
+TellsMove f bench (Ok s) v = (w : model.State) × IsToldMove f bench s v w
+TellsMove f bench (Err e) v = Refuses e (told_value readings f bench (present bench.timeline) v)
 
 -- the bench goes the way of a line's move, which changes its history so
-abbrev pub MovesBy : Move → Bench → Bench → Result (Unit {0}) LoadFault → Json → Type 0
-MovesBy move old new (Ok u) v = (m : Label × model.State) × (value_move readings old (present old.timeline) v ≡ Ok m) × (new ≡ moved_by move old m)
-MovesBy move old new (Err f) v = Refuses f (value_move readings old (present old.timeline) v)
+abbrev pub MovesBy : Format → Move → Bench → Bench → Result (Unit {0}) LoadFault → Json → Type 0
+MovesBy f move old new (Ok u) v = (m : Label × model.State) × (told_value readings f old (present old.timeline) v ≡ Ok m) × (new ≡ moved_by move old m)
+MovesBy f move old new (Err e) v = Refuses e (told_value readings f old (present old.timeline) v)

@@ -5,7 +5,7 @@ ghost use Rattle.ssa_model.specs.definitions.Answers.{answer, apply, update, str
 ghost use Rattle.ssa_model.specs.definitions.Entries.{object_of_state};
 ghost use Rattle.ssa_model.specs.definitions.History.{is_manager_name, past_len, future_len, present};
 ghost use Rattle.ssa_model.specs.definitions.PathMap.{size};
-ghost use Rattle.ssa_model.specs.definitions.BenchText.{records};
+ghost use Rattle.ssa_model.specs.definitions.BenchText.{parts};
 ghost use Rattle.ssa_model.specs.definitions.Formats.{IsFile};
 ghost use Rattle.ssa_model.specs.definitions.RecordedBench.{recorded_text, recorded_values};
 ghost use Rattle.ssa_model.specs.definitions.Valid.{IsTable, IsValidState, IsValidBody};
@@ -467,10 +467,10 @@ impl Bench {
 
     // The text of the bench file.
     fn text(&self, alloc: Global) -> Result<Vec<u8>, SaveFault>
-        ensures ok { IfOk result (λ t. t.items ≡ recorded_text self.now) }
+        ensures ok { IfOk result (λ t. t.items ≡ recorded_text parts self.now) }
         ensures fits { IfOk result (λ t. length t.items ≤ most_bench_bytes) }
-        ensures of_program { OnOk result (All IsOfProgram (recorded_values self.now)) }
-        ensures refused { IfErr result (λ f. CannotHold f (recorded_text self.now)) }
+        ensures of_program { OnOk result (All IsOfProgram (recorded_values parts self.now)) }
+        ensures refused { IfErr result (λ f. CannotHold f (recorded_text parts self.now)) }
     {
         recorded_text(alloc, &self.schema, &self.identity, &self.timeline)
     }
@@ -479,13 +479,13 @@ impl Bench {
     /// [`MOST_FILE_BYTES`](ssa_lines::saving::MOST_FILE_BYTES) bytes; nothing is written before all of it
     /// stands in memory.
     pub fn save<S: Sink>(&self, alloc: Global, sink: &mut S) -> Result<(), SaveFault>
-        ensures ok { OnOk result (Appends (S.contents sink.old) (S.contents sink.new) (recorded_text self.now)) }
+        ensures ok { OnOk result (Appends (S.contents sink.old) (S.contents sink.new) (recorded_text parts self.now)) }
         ensures handed_on { OnOk result (S.is_handed_on sink.new ≡ true) }
-        ensures fits { OnOk result (length (recorded_text self.now) ≤ most_bench_bytes) }
+        ensures fits { OnOk result (length (recorded_text parts self.now) ≤ most_bench_bytes) }
 
         // What is written is the bench's file: `load` gives the bench back from it.
-        ensures file { OnOk result (IsFile readings records (recorded_text self.now) self.now) }
-        ensures refused { IfErr result (NotSaved S.contents S.has_failed sink.old sink.new (recorded_text self.now)) }
+        ensures file { OnOk result (IsFile readings parts (recorded_text parts self.now) self.now) }
+        ensures refused { IfErr result (NotSaved S.contents S.has_failed sink.old sink.new (recorded_text parts self.now)) }
     {
         let text = self.text(alloc)?;
         write_text(sink, &text)?;

@@ -9,10 +9,9 @@ ghost use Rattle.ssa_model.specs.laws.LineByLine.{later_from, moves_from, preced
 ghost use Rattle.ssa_json.specs.Readings.{readings};
 ghost use Rattle.ssa_json.specs.View.{view};
 ghost use Rattle.ssa_json.specs.Writable.{IsOfProgram};
-ghost use Rattle.ssa_file.specs.Heads.{IsFew, head_view, place_view};
+ghost use Rattle.ssa_file.specs.Heads.{IsFew, counts_view, format_view, head_view, place_view};
 ghost use Rattle.ssa_lines.specs.declared.loading.LoadFault.TheVariants.{Io};
-ghost use Rattle.ssa_bench.specs.Loading.{Loads, ReadsEnd, ReadsLine, ReadsMoves, ReadsOn, ReadsPart, ReadsSteps};
-ghost use Rattle.ssa_bench.specs.Taking.{held_head};
+ghost use Rattle.ssa_bench.specs.Loading.{Loads, ReadsEnd, ReadsHead, ReadsLine, ReadsMoves, ReadsOn, ReadsPart, ReadsSteps};
 
 use crate::bench::Bench;
 use crate::taking::{head_of, schema_of};
@@ -49,7 +48,7 @@ fn read_head<R: Source>(
     room: &mut usize,
 ) -> Result<FileHead, LoadFault>
     ensures few { IfOk result IsFew }
-    ensures read { ReadsPart held_head (R.remaining reader.old) (R.remaining reader.new) room.old room.new result }
+    ensures read { ReadsHead (R.remaining reader.old) (R.remaining reader.new) room.old room.new result }
     ensures failed { result ≡ Err LoadFault.Io → R.has_failed reader.new ≡ true }
 {
     let line = next_line(alloc, reader, room)?;
@@ -121,7 +120,7 @@ fn read_past<R: Source>(
 ) -> Result<(), LoadFault>
     requires first { past_len bench.old.timeline ≡ 0 }
     requires few { length bench.old.timeline.later + count ≤ most_past }
-    ensures read { ReadsMoves preceded count (R.remaining reader.old) (R.remaining reader.new) room.old room.new bench.old bench.new result }
+    ensures read { ReadsMoves (format_view format) preceded count (R.remaining reader.old) (R.remaining reader.new) room.old room.new bench.old bench.new result }
     ensures many { OnOk result (length bench.new.timeline.later ≡ length bench.old.timeline.later + count) }
     ensures failed { result ≡ Err LoadFault.Io → R.has_failed reader.new ≡ true }
 {
@@ -144,7 +143,7 @@ fn read_future<R: Source>(
     number: &mut usize,
 ) -> Result<(), LoadFault>
     requires few { past_len bench.old.timeline + count ≤ most_past }
-    ensures read { ReadsMoves appended count (R.remaining reader.old) (R.remaining reader.new) room.old room.new bench.old bench.new result }
+    ensures read { ReadsMoves (format_view format) appended count (R.remaining reader.old) (R.remaining reader.new) room.old room.new bench.old bench.new result }
     ensures many { OnOk result (past_len bench.new.timeline ≡ past_len bench.old.timeline + count) }
     ensures within { OnOk result (past_len bench.new.timeline ≤ length bench.new.timeline.later) }
     ensures failed { result ≡ Err LoadFault.Io → R.has_failed reader.new ≡ true }
@@ -202,7 +201,7 @@ fn read_history<R: Source>(
 ) -> Result<(), LoadFault>
     requires lone { bench.old.timeline ≡ lone_state bench.old.timeline.first }
     requires few { counts.now.past + counts.now.future ≤ most_past }
-    ensures read { ReadsOn (moves_from readings counts.now.past counts.now.future bench.old) (R.remaining reader.old) (R.remaining reader.new) room.old bench.new result }
+    ensures read { ReadsOn (moves_from readings (counts_view counts.now) bench.old) (R.remaining reader.old) (R.remaining reader.new) room.old bench.new result }
     ensures failed { result ≡ Err LoadFault.Io → R.has_failed reader.new ≡ true }
 {
     read_past(

@@ -1,7 +1,8 @@
 //! The parts of a line of a bench file of whole states.
-ghost use Rattle.std.specs.Prelude.{◌≡◌, codes, IfOk, option_map};
+ghost use Rattle.std.specs.Prelude.{◌≡◌, ◌&&◌, codes, IfOk, option_map};
 ghost use Rattle.ssa_model.specs.definitions.Answers.{file_state};
 ghost use Rattle.ssa_model.specs.definitions.Commands.{value_in};
+ghost use Rattle.ssa_model.specs.definitions.Formats.{is_main_label, is_main_state};
 ghost use Rattle.ssa_model.specs.definitions.Json.{member_at};
 ghost use Rattle.ssa_model.specs.definitions.Valid.{IsValidState};
 ghost use Rattle.ssa_model.specs.laws.BenchFiles.{label_in, object_in};
@@ -30,7 +31,9 @@ pub(crate) struct TakenStep {
 
 impl TakenStep {
     // Whether neither the command nor a manager of the state acts through a subresource.
-    pub(crate) fn is_main(&self) -> bool {
+    pub(crate) fn is_main(&self) -> bool
+        ensures { result ≡ (is_main_label (label_view self.now.label) && is_main_state (state_view self.now.state)) }
+    {
         is_main_label(&self.label) && are_main_managers(&self.state.managers)
     }
 }

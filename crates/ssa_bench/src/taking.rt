@@ -1,10 +1,12 @@
 //! The parts of a bench file's lines.
+ghost use Rattle.std.specs.List.{list_all};
 ghost use Rattle.std.specs.Prelude.{◌≡◌, IfOk, option_map};
+ghost use Rattle.ssa_model.specs.definitions.Formats.{is_main, is_main_label};
 ghost use Rattle.ssa_model.specs.laws.BenchFiles.{schema_in};
 ghost use Rattle.ssa_json.specs.View.{view};
 ghost use Rattle.ssa_turn.specs.Histories.{label_view};
 ghost use Rattle.ssa_file.specs.Heads.{IsFew};
-ghost use Rattle.ssa_bench.specs.Taking.{IsTaken, answered_step, held_head, load_fault, of_schema_fault, written_label};
+ghost use Rattle.ssa_bench.specs.Taking.{IsTaken, TakesHead, answered_step, load_fault, of_schema_fault, written_label};
 
 use ssa_answers::fault::Fault;
 use ssa_file::head::{FileHead, file_head};
@@ -71,7 +73,7 @@ pub(crate) fn schema_of(alloc: Global, value: Json) -> Result<Schema, LoadFault>
 // What a first line says.
 pub(crate) fn head_of(alloc: Global, line: &FileLine) -> Result<FileHead, LoadFault>
     ensures few { IfOk result IsFew }
-    ensures taken { IsTaken result (held_head (view line.now.value)) }
+    ensures taken { TakesHead result (view line.now.value) }
 {
     match file_head(alloc, &line.value)? {
         Some(head) => Ok(head),
@@ -96,7 +98,9 @@ pub(crate) fn label_of(alloc: Global, value: &Json) -> Result<Option<Label>, All
 }
 
 // Whether a label tells no subresource.
-pub(crate) fn is_main_label(label: &Label) -> bool {
+pub(crate) fn is_main_label(label: &Label) -> bool
+    ensures { result ≡ is_main_label (label_view label.now) }
+{
     match label {
         Label::Apply { part, .. } | Label::Update { part, .. } => matches!(part, Part::Main),
         Label::Strip => true,
@@ -104,7 +108,9 @@ pub(crate) fn is_main_label(label: &Label) -> bool {
 }
 
 // Whether no manager acts through a subresource.
-pub(crate) fn are_main_managers(managers: &Managers) -> bool {
+pub(crate) fn are_main_managers(managers: &Managers) -> bool
+    ensures { result ≡ list_all (λ e. is_main e.manager.part) managers.now }
+{
     managers
         .iter()
         .all(|entry| matches!(entry.key.part, Part::Main))

@@ -1,3 +1,4 @@
+pub mod HeadFacts
 pub mod Walking
 pub mod RecordingFacts
 pub mod LineTexts

@@ -8,7 +8,7 @@ use Rattle.std.proofs.lemmas.Option.{get_or_from_slice_get, none-some, same_Some
 use Rattle.std.specs.List.{All}
 use Rattle.std.specs.Prelude.{nat_lt, if◌then◌else◌}
 use Rattle.ssa_model.specs.definitions.Json.{Text, Json}
-use Rattle.ssa_model.specs.definitions.BenchText.{line, whole_object}
+use Rattle.ssa_model.specs.definitions.BenchText.{Format, line, whole_object}
 use Rattle.ssa_model.specs.definitions.History.{Bench, Label, Step, Timeline, future_len, last_state, moved_to, past_len, present}
 use Rattle.ssa_model.specs.definitions.HistoryRecords.{kept_from, kept_to, state_at}
 use Rattle.ssa_model.specs.definitions.Kind.{Kind}
@@ -173,11 +173,11 @@ all-made text whole left none made = sym (append-nil text) ∙ ap (λ js. text +
 -- ---- the text
 
 -- the three lines in front of the records
-pub opening-is : (schema : Schema) (identity : Identity) (t : Timeline) (none head_text schema_text : Text) (h s p : Json)
+pub opening-is : (f : Format) (schema : Schema) (identity : Identity) (t : Timeline) (none head_text schema_text : Text) (h s p : Json)
     → none ≡ [] → head_text ≡ none ++ line h → schema_text ≡ head_text ++ line s
-    → h ≡ record_head (past_len t) (future_len t) → s ≡ schema.source → p ≡ whole_object (bench_with schema identity t) (present t)
-    → schema_text ++ (line p ++ []) ≡ flat_map line (opening_values (bench_with schema identity t))
-opening-is schema identity t none head_text schema_text h s p none-is head-is schema-is h-is s-is p-is =
+    → h ≡ record_head f (past_len t) (future_len t) → s ≡ schema.source → p ≡ whole_object (bench_with schema identity t) (present t)
+    → schema_text ++ (line p ++ []) ≡ flat_map line (opening_values f (bench_with schema identity t))
+opening-is f schema identity t none head_text schema_text h s p none-is head-is schema-is h-is s-is p-is =
     ap (λ x. x ++ (line p ++ [])) (schema-is ∙ ap (λ x. x ++ line s) (head-is ∙ ap (λ x. x ++ line h) none-is))
     ∙ append_assoc (line h) (line s) (line p ++ [])
     ∙ (λ i. line (h-is i) ++ (line (s-is i) ++ (line (p-is i) ++ [])))

@@ -4,6 +4,7 @@ use Rattle.ssa_model.specs.definitions.Limits.{most_past}
 use Rattle.ssa_model.specs.laws.BenchFiles as states
 use Rattle.ssa_model.specs.laws.RecordedBenches as records
 use Rattle.ssa_model.specs.laws.Formats as formats
+use Rattle.ssa_file.specs.Recording.{format_view}
 use Rattle.ssa_file.specs.declared.head.StatePlace.{StatePlace}
 use Rattle.ssa_file.specs.declared.head.RecordCounts.{RecordCounts}
 use Rattle.ssa_file.specs.declared.head.FileHead.{FileHead}
@@ -13,7 +14,7 @@ abbrev pub place_view : StatePlace → states.Head
 place_view p = record { place = p.place; states = p.states }
 
 abbrev pub counts_view : RecordCounts → records.Counts
-counts_view c = record { past = c.past; future = c.future }
+counts_view c = record { format = format_view c.format; past = c.past; future = c.future }
 
 abbrev pub head_view : FileHead → formats.FileHead
 head_view (States p) = formats.of_states (place_view p)

@@ -1,12 +1,18 @@
--- What a save of records writes.
+-- The formats of bench files of records, and what a save writes.
 use Rattle.std.specs.Prelude.{ℕ, List, [], ◌∷◌}
 use Rattle.ssa_model.specs.definitions.Json.{Json}
 use Rattle.ssa_model.specs.definitions.Objects.{Identity}
 use Rattle.ssa_model.specs.definitions.Schema.{Schema}
-use Rattle.ssa_model.specs.definitions.BenchText.{whole_object}
+use Rattle.ssa_model.specs.definitions.BenchText.{Format, records, parts, whole_object}
 use Rattle.ssa_model.specs.definitions.History.{Bench, Step, Timeline, present, past_len, future_len}
 use Rattle.ssa_model.specs.definitions.HistoryRecords.{kept_from, kept_to}
 use Rattle.ssa_model.specs.definitions.RecordedBench.{record_head, record_line, past_lines, past_steps, future_lines, future_steps}
+use Rattle.ssa_file.specs.declared.recording.RecordFormat.{RecordFormat}
+use Rattle.ssa_file.specs.declared.recording.RecordFormat.TheVariants.{Records, Parts}
+
+abbrev pub format_view : RecordFormat → Format
+format_view Records = records
+format_view Parts = parts
 
 -- the bench of a history
 abbrev pub bench_with : Schema → Identity → Timeline → Bench
@@ -17,10 +23,10 @@ abbrev pub kept_value : Schema → Identity → Timeline → ℕ → Step → Js
 kept_value schema identity t n s = record_line (bench_with schema identity t) s.label (kept_from t n) (kept_to t n)
 
 -- the lines in front of the records
-abbrev pub opening_values : Bench → List Json
-opening_values bench =
+abbrev pub opening_values : Format → Bench → List Json
+opening_values f bench =
     let t = bench.timeline in
-    record_head (past_len t) (future_len t) ∷ bench.schema.source ∷ whole_object bench (present t) ∷ []
+    record_head f (past_len t) (future_len t) ∷ bench.schema.source ∷ whole_object bench (present t) ∷ []
 
 -- the lines back along the past, and those on along the future
 abbrev pub past_values : Bench → List Json

@@ -5,9 +5,10 @@ ghost use Rattle.ssa_model.specs.definitions.Json.{member_at};
 ghost use Rattle.ssa_model.specs.definitions.Limits.{most_past};
 ghost use Rattle.ssa_model.specs.laws.BenchFiles.{head_in, is_written_as, number_in};
 ghost use Rattle.ssa_model.specs.laws.Formats.{file_head};
-ghost use Rattle.ssa_model.specs.laws.RecordedBenches.{counts_in};
+ghost use Rattle.ssa_model.specs.laws.RecordedBenches.{counts_in, format_in, record_format};
 ghost use Rattle.ssa_json.specs.View.{view};
 ghost use Rattle.ssa_file.specs.Heads.{IsFew, counts_view, head_view, place_view};
+ghost use Rattle.ssa_file.specs.Recording.{format_view};
 
 use crate::recording::{RecordFormat, put_number, record_head};
 use ssa_json::value::{Json, Scalar};
@@ -98,7 +99,9 @@ fn state_place(alloc: Global, value: &Json) -> Result<Option<StatePlace>, AllocE
 }
 
 // The format of records whose number this is.
-fn format_of(number: usize) -> Option<RecordFormat> {
+fn format_of(number: usize) -> Option<RecordFormat>
+    ensures { option_map format_view result ≡ record_format number }
+{
     match number {
         2 => Some(RecordFormat::Records),
         3 => Some(RecordFormat::Parts),
@@ -107,7 +110,9 @@ fn format_of(number: usize) -> Option<RecordFormat> {
 }
 
 // The format of records that a first line says.
-fn format_in(value: &Json) -> Option<RecordFormat> {
+fn format_in(value: &Json) -> Option<RecordFormat>
+    ensures { option_map format_view result ≡ format_in (view value.now) }
+{
     format_of(number_in(value, "format")?)
 }
 

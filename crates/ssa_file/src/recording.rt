@@ -1,7 +1,7 @@
 //! The text of a bench file of records.
 ghost use Rattle.std.specs.Prelude.{◌≡◌, ◌≤◌, ◌<◌, ◌^◌, ◌++◌, Some, slice_get, IfErr, IfOk, OnOk, flat_map, length};
 ghost use Rattle.std.specs.List.{All};
-ghost use Rattle.ssa_model.specs.definitions.BenchText.{line};
+ghost use Rattle.ssa_model.specs.definitions.BenchText.{format_number, line, parts};
 ghost use Rattle.ssa_model.specs.definitions.History.{Step, Timeline};
 ghost use Rattle.ssa_model.specs.definitions.Json.{compact};
 ghost use Rattle.ssa_model.specs.definitions.Limits.{most_bench_bytes};
@@ -16,7 +16,7 @@ ghost use Rattle.ssa_json.specs.Writable.{IsOfProgram};
 ghost use Rattle.ssa_lines.specs.Saving.{CannotHold};
 ghost use Rattle.ssa_turn.specs.Histories.{label_view};
 ghost use Rattle.ssa_turn_state.specs.States.{HasStateRoom, state_steps};
-ghost use Rattle.ssa_file.specs.Recording.{bench_with, future_values, kept_value, opening_values, past_values};
+ghost use Rattle.ssa_file.specs.Recording.{bench_with, format_view, future_values, kept_value, opening_values, past_values};
 
 use ssa_json::members::put_member;
 use ssa_json::value::{Json, Scalar};
@@ -56,7 +56,9 @@ pub enum RecordFormat {
 
 impl RecordFormat {
     /// The number that the first line has.
-    pub fn number(self) -> usize {
+    pub fn number(self) -> usize
+        ensures { result ≡ format_number (format_view self) }
+    {
         match self {
             RecordFormat::Records => 2,
             RecordFormat::Parts => 3,
@@ -64,7 +66,7 @@ impl RecordFormat {
     }
 }
 
-/// The value of the first line: how many commands can be undone, and how many redone.
+/// The value of the first line: the format, and how many commands can be undone and redone.
 pub fn record_head(
     alloc: Global,
     format: RecordFormat,
@@ -73,7 +75,7 @@ pub fn record_head(
 ) -> Result<Json, AllocError>
     requires past { past < 2 ^ 63 }
     requires future { future < 2 ^ 63 }
-    ensures { IfOk result (λ v. view v ≡ record_head past future) }
+    ensures { IfOk result (λ v. view v ≡ record_head (format_view format) past future) }
 {
     let mut members = Members::new(alloc);
     put_number(alloc, &mut members, "past", past)?;
@@ -191,10 +193,10 @@ fn opening_text(
     history: &Timeline,
 ) -> Result<Vec<u8>, SaveFault>
     requires valid { IsValidHistory schema.now.kind history.now }
-    ensures ok { IfOk result (λ t. t.items ≡ flat_map line (opening_values (bench_with schema.now identity.now history.now))) }
+    ensures ok { IfOk result (λ t. t.items ≡ flat_map line (opening_values parts (bench_with schema.now identity.now history.now))) }
     ensures fits { IfOk result (λ t. length t.items ≤ most_bench_bytes) }
-    ensures of_program { OnOk result (All IsOfProgram (opening_values (bench_with schema.now identity.now history.now))) }
-    ensures refused { IfErr result (λ f. CannotHold f (flat_map line (opening_values (bench_with schema.now identity.now history.now)))) }
+    ensures of_program { OnOk result (All IsOfProgram (opening_values parts (bench_with schema.now identity.now history.now))) }
+    ensures refused { IfErr result (λ f. CannotHold f (flat_map line (opening_values parts (bench_with schema.now identity.now history.now)))) }
 {
     let head = record_head(
         alloc,
@@ -210,7 +212,7 @@ fn opening_text(
     Ok(text)
 }
 
-/// The text of the bench file of records of a history, which is only read.
+/// The text of the bench file of a history, which is only read: in the format of records with subresources.
 pub fn recorded_text(
     alloc: Global,
     schema: &Schema,
@@ -218,10 +220,10 @@ pub fn recorded_text(
     history: &Timeline,
 ) -> Result<Vec<u8>, SaveFault>
     requires valid { IsValidHistory schema.now.kind history.now }
-    ensures ok { IfOk result (λ t. t.items ≡ recorded_text (bench_with schema.now identity.now history.now)) }
+    ensures ok { IfOk result (λ t. t.items ≡ recorded_text parts (bench_with schema.now identity.now history.now)) }
     ensures fits { IfOk result (λ t. length t.items ≤ most_bench_bytes) }
-    ensures of_program { OnOk result (All IsOfProgram (recorded_values (bench_with schema.now identity.now history.now))) }
-    ensures refused { IfErr result (λ f. CannotHold f (recorded_text (bench_with schema.now identity.now history.now))) }
+    ensures of_program { OnOk result (All IsOfProgram (recorded_values parts (bench_with schema.now identity.now history.now))) }
+    ensures refused { IfErr result (λ f. CannotHold f (recorded_text parts (bench_with schema.now identity.now history.now))) }
 {
     let mut text = opening_text(alloc, schema, identity, history)?;
     push_past(alloc, &mut text, schema, identity, history)?;

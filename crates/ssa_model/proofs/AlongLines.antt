@@ -1,13 +1,15 @@
 -- What is read along lines of moves, and of a line of which a part is taken: a bench, where their values give it, or the fault of the first faulty line.
-use Rattle.std.proofs.Common.{◌≡◌, ◌≤◌, ◌<◌, ℕ, zero, suc, ◌+◌, length, List, [], ◌∷◌, ◌++◌, take, drop, ◌⊎◌, inl, inr, Option, Some, None, option_map, option_and_then, refl, sym, ap, ◌∙◌, subst, arith}
+use Rattle.std.proofs.Common.{◌≡◌, ◌≤◌, ◌<◌, ℕ, zero, suc, ◌+◌, length, List, [], ◌∷◌, ◌++◌, take, drop, Bool, true, false, ◌⊎◌, inl, inr, Option, Some, None, option_map, option_and_then, refl, sym, ap, ◌∙◌, subst, arith}
 use Rattle.std.proofs.lemmas.Option.{same_Some, none-some}
-use Rattle.std.specs.Prelude.{Result, Ok, Err}
+use Rattle.std.specs.Prelude.{if◌then◌else◌, Result, Ok, Err}
 use Rattle.ssa_model.specs.definitions.Json.{Text, Json}
 use Rattle.ssa_model.specs.definitions.Operations.{State}
 use Rattle.ssa_model.specs.definitions.Readings.{Readings}
 use Rattle.ssa_model.specs.definitions.History.{Label, Timeline, Bench, present, with_timeline}
+use Rattle.ssa_model.specs.definitions.BenchText.{Format}
+use Rattle.ssa_model.specs.definitions.Formats.{can_tell_line}
 use Rattle.ssa_model.specs.laws.BenchFiles.{spelled_value, values_of}
-use Rattle.ssa_model.specs.laws.RecordedBenches.{move_in, MoveFault, no_move_text, refused_fault, value_move, lines_fault}
+use Rattle.ssa_model.specs.laws.RecordedBenches.{move_in, told_move, MoveFault, no_move_text, refused_fault, value_move, told_value, lines_fault}
 use Rattle.ssa_model.specs.laws.LineByLine.{Next, at_end, no_value, value_then, next_value, Reader, after_value, after_part, with_part, Move, moved_by, after_move, along}
 use Rattle.ssa_model.proofs.Given.{and_then-back, map-back}
 use Rattle.ssa_model.proofs.NextValues.{lines_left, no-lines, no-values, HasNext, Stands, stands, next-values, next-counts, lines-of-values, nil-cons, same-first, same-tail}
@@ -15,9 +17,9 @@ use Rattle.ssa_model.proofs.NextValues.{lines_left, no-lines, no-values, HasNext
 -- ---- moves in a row
 
 -- the moves from a state along the values of lines
-abbrev pub moves_in : Readings → Bench → State → List Json → Option (List (Label × State))
-moves_in readings now v [] = Some []
-moves_in readings now v (j ∷ js) = option_and_then (λ m. option_map (λ ms. m ∷ ms) (moves_in readings now m.1 js)) (move_in readings now v j)
+abbrev pub moves_in : Readings → Format → Bench → State → List Json → Option (List (Label × State))
+moves_in readings format now v [] = Some []
+moves_in readings format now v (j ∷ js) = option_and_then (λ m. option_map (λ ms. m ∷ ms) (moves_in readings format now m.1 js)) (told_move readings format now v j)
 
 -- the history after these moves, one after the other
 abbrev pub all_moved : Move → Timeline → List (Label × State) → Timeline
@@ -32,16 +34,34 @@ IsPlaced t = t.place ≤ length t.later
 abbrev pub Lands : Move → Type 0
 Lands move = (t : Timeline) (l : Label) (s : State) → IsPlaced t → (present (move t l s) ≡ s) × IsPlaced (move t l s)
 
-abbrev told_move : Result (Label × State) MoveFault → Option (Label × State)
-told_move (Ok m) = Some m
-told_move (Err f) = None
+abbrev ok_move : Result (Label × State) MoveFault → Option (Label × State)
+ok_move (Ok m) = Some m
+ok_move (Err f) = None
 
 abbrev of_move : Readings → Json → Option (Label × State) → Result (Label × State) MoveFault
 of_move readings j o = elim o [ Some m ↦ Ok m | None ↦ Err (refused_fault readings j) ]
 
 moved-value : (readings : Readings) (j : Json) (o : Option (Label × State)) (m : Label × State) → of_move readings j o ≡ Ok m → o ≡ Some m
-moved-value readings j (Some n) m is = ap told_move is
+moved-value readings j (Some n) m is = ap ok_move is
 moved-value readings j None m is = absurd cc
+
+-- the same in a format
+moved-told : (readings : Readings) (format : Format) (now : Bench) (v : State) (j : Json) (m : Label × State) → told_value readings format now v j ≡ Ok m
+    → told_move readings format now v j ≡ Some m
+moved-told readings format now v j m is = by (can_tell_line format j) is
+  where
+    by : (b : Bool) → (if b then value_move readings now v j else Err no_move_text) ≡ Ok m → (if b then move_in readings now v j else None) ≡ Some m
+    by true is = moved-value readings j (move_in readings now v j) m is
+    by false is = absurd cc
+
+told-moved : (readings : Readings) (format : Format) (now : Bench) (v : State) (j : Json) (m : Label × State) → told_move readings format now v j ≡ Some m
+    → told_value readings format now v j ≡ Ok m
+told-moved readings format now v j m is = by (can_tell_line format j) is
+  where
+    by : (b : Bool) → (if b then move_in readings now v j else None) ≡ Some m
+        → ◌≡◌ {A = Result (Label × State) MoveFault} (if b then value_move readings now v j else Err no_move_text) (Ok m)
+    by true is = ap (of_move readings j) is
+    by false is = absurd (none-some m is)
 
 abbrev told_fault : {X : Type 0} → MoveFault → Result X MoveFault → MoveFault
 told_fault d (Ok x) = d
@@ -53,7 +73,7 @@ same-fault f g e = ap (told_fault f) e
 
 -- ---- along the lines
 
-module _ (readings : Readings) (now : Bench) (move : Move) (lands : Lands move) where
+module _ (readings : Readings) (format : Format) (now : Bench) (move : Move) (lands : Lands move) where
   -- the bench with this history
   abbrev pub at : Timeline → Bench
   at t = with_timeline now t
@@ -75,7 +95,7 @@ module _ (readings : Readings) (now : Bench) (move : Move) (lands : Lands move) 
     -- there are as many lines as were to be read
     pub many : length js ≡ n
     -- from the present state on, the values give the moves
-    pub moves : moves_in readings now (present t) js ≡ Some ms
+    pub moves : moves_in readings format now (present t) js ≡ Some ms
     -- the room has become smaller by the bytes that were read
     pub counted : length xs + left ≡ length ys + room
     -- what is read behind the lines, after the moves, is the bench
@@ -91,18 +111,18 @@ module _ (readings : Readings) (now : Bench) (move : Move) (lands : Lands move) 
   joined j js (Some ws) = refl
 
   abbrev Onward : (Bench → Reader) → ℕ → Timeline → Json → Reader
-  Onward go n t v = after_move (λ m. along readings move go n (moved_by move (at t) m)) (value_move readings now (present t) v)
+  Onward go n t v = after_move (λ m. along readings format move go n (moved_by move (at t) m)) (told_value readings format now (present t) v)
 
   went-move : (go : Bench → Reader) (n : ℕ) (t : Timeline) (xs : List ℕ) (room : ℕ) (bench : Bench) → IsPlaced t
-      → ((u : Timeline) (ys : List ℕ) (left : ℕ) → IsPlaced u → along readings move go n (at u) ys left ≡ Ok bench → Went go n u ys left bench)
+      → ((u : Timeline) (ys : List ℕ) (left : ℕ) → IsPlaced u → along readings format move go n (at u) ys left ≡ Ok bench → Went go n u ys left bench)
       → (v : Json) (ys : List ℕ) (left : ℕ) → HasNext readings xs room v ys left
-      → (r : Result (Label × State) MoveFault) → value_move readings now (present t) v ≡ r
-      → after_move (λ m. along readings move go n (moved_by move (at t) m)) r ys left ≡ Ok bench → Went go (suc n) t xs room bench
+      → (r : Result (Label × State) MoveFault) → told_value readings format now (present t) v ≡ r
+      → after_move (λ m. along readings format move go n (moved_by move (at t) m)) r ys left ≡ Ok bench → Went go (suc n) t xs room bench
   went-move go n t xs room bench placed again v ys left next (Ok m) moved h =
       let landed = lands t m.0 m.1 placed in
       let rest = again (move t m.0 m.1) ys left landed.1 h in
-      let first = moved-value readings v (move_in readings now (present t) v) m moved in
-      let onward = ap (λ s. moves_in readings now s rest.js) (sym landed.0) ∙ rest.moves in
+      let first = moved-told readings format now (present t) v m moved in
+      let onward = ap (λ s. moves_in readings format now s rest.js) (sym landed.0) ∙ rest.moves in
       let counted = next-counts readings xs room v ys left next in
       let later = rest.counted in
       record {
@@ -112,23 +132,23 @@ module _ (readings : Readings) (now : Bench) (move : Move) (lands : Lands move) 
         left = rest.left;
         values = next-values readings xs room v ys left next ∙ ap (option_map (λ ws. v ∷ ws)) rest.values ∙ joined v rest.js (values_of readings rest.ys);
         many = ap suc rest.many;
-        moves = ap (option_and_then (λ m. option_map (λ ms. m ∷ ms) (moves_in readings now m.1 rest.js))) first ∙ ap (option_map (λ ms. m ∷ ms)) onward;
+        moves = ap (option_and_then (λ m. option_map (λ ms. m ∷ ms) (moves_in readings format now m.1 rest.js))) first ∙ ap (option_map (λ ms. m ∷ ms)) onward;
         counted = omega (arith, counted, later);
         done = rest.done;
       }
   went-move go n t xs room bench placed again v ys left next (Err f) moved h = absurd cc
 
   went-next : (go : Bench → Reader) (n : ℕ) (t : Timeline) (xs : List ℕ) (room : ℕ) (bench : Bench) → IsPlaced t
-      → ((u : Timeline) (ys : List ℕ) (left : ℕ) → IsPlaced u → along readings move go n (at u) ys left ≡ Ok bench → Went go n u ys left bench)
+      → ((u : Timeline) (ys : List ℕ) (left : ℕ) → IsPlaced u → along readings format move go n (at u) ys left ≡ Ok bench → Went go n u ys left bench)
       → (next : Next) → Stands readings xs room next → after_value (Onward go n t) next ≡ Ok bench → Went go (suc n) t xs room bench
   went-next go n t xs room bench placed again at_end s h = absurd cc
   went-next go n t xs room bench placed again no_value s h = absurd cc
   went-next go n t xs room bench placed again (value_then v ys left) s h =
-      went-move go n t xs room bench placed again v ys left s (value_move readings now (present t) v) refl h
+      went-move go n t xs room bench placed again v ys left s (told_value readings format now (present t) v) refl h
 
   -- a bench that is read along so many lines comes of such lines
   pub went : (go : Bench → Reader) (n : ℕ) (t : Timeline) (xs : List ℕ) (room : ℕ) (bench : Bench) → IsPlaced t
-      → along readings move go n (at t) xs room ≡ Ok bench → Went go n t xs room bench
+      → along readings format move go n (at t) xs room ≡ Ok bench → Went go n t xs room bench
   went go zero t xs room bench placed is = record {
     js = [];
     ms = [];
@@ -152,7 +172,7 @@ module _ (readings : Readings) (now : Bench) (move : Move) (lands : Lands move) 
     -- the room that is left for them
     pub left : ℕ
     -- reading along the lines is reading behind them, after the moves
-    pub is : along readings move go n (at t) xs room ≡ go (at (all_moved move t ms)) ys left
+    pub is : along readings format move go n (at t) xs room ≡ go (at (all_moved move t ms)) ys left
     -- the bytes behind have the values behind
     pub values : values_of readings ys ≡ Some ws
     -- there is room for them
@@ -160,7 +180,7 @@ module _ (readings : Readings) (now : Bench) (move : Move) (lands : Lands move) 
 
   reaches-next : (go : Bench → Reader) (n : ℕ) (t : Timeline) (xs : List ℕ) (room : ℕ)
       (m : Label × State) (ms : List (Label × State)) (j : Json) (vs ws : List Json)
-      → value_move readings now (present t) j ≡ Ok m → values_of readings xs ≡ Some (j ∷ vs) → length xs ≤ room
+      → told_value readings format now (present t) j ≡ Ok m → values_of readings xs ≡ Some (j ∷ vs) → length xs ≤ room
       → ((ys : List ℕ) (left : ℕ) → values_of readings ys ≡ Some vs → length ys ≤ left → Reaches go n (move t m.0 m.1) ys left ms ws)
       → (next : Next) → Stands readings xs room next → next_value readings room xs ≡ next → Reaches go (suc n) t xs room (m ∷ ms) ws
   reaches-next go n t xs room m ms j vs ws moved is fits again at_end s e =
@@ -172,12 +192,12 @@ module _ (readings : Readings) (now : Bench) (move : Move) (lands : Lands move) 
       let all = map-back (λ us. v ∷ us) (values_of readings ys) (j ∷ vs) (sym (next-values readings xs room v ys left s) ∙ is) in
       let counted = next-counts readings xs room v ys left s in
       let rest = again ys left (all.1 ∙ ap Some (same-tail v j all.0 vs all.2)) (omega (arith, counted, fits)) in
-      let took : value_move readings now (present t) v ≡ Ok m = ap (value_move readings now (present t)) (same-first v j all.0 vs all.2) ∙ moved in
+      let took : told_value readings format now (present t) v ≡ Ok m = ap (told_value readings format now (present t)) (same-first v j all.0 vs all.2) ∙ moved in
       record {
         ys = rest.ys;
         left = rest.left;
         is = ap (after_value (Onward go n t)) e
-            ∙ ap (λ (r : Result (Label × State) MoveFault). after_move (λ m. along readings move go n (moved_by move (at t) m)) r ys left) took
+            ∙ ap (λ (r : Result (Label × State) MoveFault). after_move (λ m. along readings format move go n (moved_by move (at t) m)) r ys left) took
             ∙ rest.is;
         values = rest.values;
         fits = rest.fits;
@@ -185,7 +205,7 @@ module _ (readings : Readings) (now : Bench) (move : Move) (lands : Lands move) 
 
   -- where the values of the bytes begin with those of moves, the reading reaches what stands behind them
   pub reaches : (go : Bench → Reader) (js ws : List Json) (ms : List (Label × State)) (t : Timeline) (xs : List ℕ) (room : ℕ) → IsPlaced t
-      → moves_in readings now (present t) js ≡ Some ms → values_of readings xs ≡ Some (js ++ ws) → length xs ≤ room → Reaches go (length js) t xs room ms ws
+      → moves_in readings format now (present t) js ≡ Some ms → values_of readings xs ≡ Some (js ++ ws) → length xs ≤ room → Reaches go (length js) t xs room ms ws
   reaches go [] ws ms t xs room placed moves is fits = record {
     ys = xs;
     left = room;
@@ -194,13 +214,13 @@ module _ (readings : Readings) (now : Bench) (move : Move) (lands : Lands move) 
     fits = fits;
   }
   reaches go (j ∷ js) ws ms t xs room placed moves is fits =
-      let first = and_then-back (λ m. option_map (λ ns. m ∷ ns) (moves_in readings now m.1 js)) (move_in readings now (present t) j) ms moves in
+      let first = and_then-back (λ m. option_map (λ ns. m ∷ ns) (moves_in readings format now m.1 js)) (told_move readings format now (present t) j) ms moves in
       let m = first.0 in
-      let later = map-back (λ ns. m ∷ ns) (moves_in readings now m.1 js) ms first.2 in
+      let later = map-back (λ ns. m ∷ ns) (moves_in readings format now m.1 js) ms first.2 in
       let landed = lands t m.0 m.1 placed in
       subst (λ ns. Reaches go (suc (length js)) t xs room ns ws) later.2
-      (reaches-next go (length js) t xs room m later.0 j (js ++ ws) ws (ap (of_move readings j) first.1) is fits
-      (λ ys left read few. reaches go js ws later.0 (move t m.0 m.1) ys left landed.1 (ap (λ s. moves_in readings now s js) landed.0 ∙ later.1) read few)
+      (reaches-next go (length js) t xs room m later.0 j (js ++ ws) ws (told-moved readings format now (present t) j m first.1) is fits
+      (λ ys left read few. reaches go js ws later.0 (move t m.0 m.1) ys left landed.1 (ap (λ s. moves_in readings format now s js) landed.0 ∙ later.1) read few)
       (next_value readings room xs) (stands readings xs room) refl)
 
   -- ---- a fault
@@ -213,34 +233,34 @@ module _ (readings : Readings) (now : Bench) (move : Move) (lands : Lands move) 
 
   fault-move : (go : Bench → Reader) (n : ℕ) (t : Timeline) (u : Text) (ts : List Text) (ys : List ℕ) (left : ℕ) (behind f : MoveFault) → IsPlaced t
       → (length (u ∷ ts) < suc n → behind ≡ no_move_text) → Behind go (suc n) t (u ∷ ts) behind f → lines_left ys left ≡ ts
-      → ((w : Timeline) → IsPlaced w → (length ts < n → behind ≡ no_move_text) → Behind go n w ts behind f → along readings move go n (at w) ys left ≡ Err f
-      → lines_fault readings now behind (present w) (take n ts) ≡ f)
+      → ((w : Timeline) → IsPlaced w → (length ts < n → behind ≡ no_move_text) → Behind go n w ts behind f → along readings format move go n (at w) ys left ≡ Err f
+      → lines_fault readings format now behind (present w) (take n ts) ≡ f)
       → (r : Result (Label × State) MoveFault)
-      → after_move (λ m. along readings move go n (moved_by move (at t) m)) r ys left ≡ Err f
-      → elim r [ Ok m ↦ lines_fault readings now behind m.1 (take n ts) | Err g ↦ g ] ≡ f
+      → after_move (λ m. along readings format move go n (moved_by move (at t) m)) r ys left ≡ Err f
+      → elim r [ Ok m ↦ lines_fault readings format now behind m.1 (take n ts) | Err g ↦ g ] ≡ f
   fault-move go n t u ts ys left behind f placed short reached same again (Ok m) h =
       let landed = lands t m.0 m.1 placed in
-      ap (λ s. lines_fault readings now behind s (take n ts)) (sym landed.0)
+      ap (λ s. lines_fault readings format now behind s (take n ts)) (sym landed.0)
       ∙ again (move t m.0 m.1) landed.1 (λ less. short (omega (arith, less)))
       (λ ms zs rest many lines failed. reached (m ∷ ms) zs rest (ap suc many) lines failed) h
   fault-move go n t u ts ys left behind f placed short reached same again (Err g) h = same-fault g f h
 
   fault-none : (n : ℕ) (v : State) (ts : List Text) (behind f : MoveFault) → (length ts < suc n → behind ≡ no_move_text)
       → ((t : Text) (us : List Text) → ts ≡ t ∷ us → spelled_value readings t ≡ None) → no_move_text ≡ f
-      → lines_fault readings now behind v (take (suc n) ts) ≡ f
+      → lines_fault readings format now behind v (take (suc n) ts) ≡ f
   fault-none n v [] behind f short none is = short (omega arith) ∙ is
   fault-none n v (t ∷ ts) behind f short none is =
-      ap (λ (r : Result (Label × State) MoveFault). elim r [ Ok m ↦ lines_fault readings now behind m.1 (take n ts) | Err g ↦ g ])
-      (ap (λ (o : Option Json). elim o [ Some j ↦ value_move readings now v j | None ↦ Err no_move_text ]) (none t ts refl))
+      ap (λ (r : Result (Label × State) MoveFault). elim r [ Ok m ↦ lines_fault readings format now behind m.1 (take n ts) | Err g ↦ g ])
+      (ap (λ (o : Option Json). elim o [ Some j ↦ told_value readings format now v j | None ↦ Err no_move_text ]) (none t ts refl))
       ∙ is
 
   fault-next : (go : Bench → Reader) (n : ℕ) (t : Timeline) (xs : List ℕ) (room : ℕ) (behind f : MoveFault) → IsPlaced t
       → (length (lines_left xs room) < suc n → behind ≡ no_move_text) → Behind go (suc n) t (lines_left xs room) behind f
       → ((w : Timeline) (ys : List ℕ) (left : ℕ) → IsPlaced w → (length (lines_left ys left) < n → behind ≡ no_move_text)
-      → Behind go n w (lines_left ys left) behind f → along readings move go n (at w) ys left ≡ Err f
-      → lines_fault readings now behind (present w) (take n (lines_left ys left)) ≡ f)
+      → Behind go n w (lines_left ys left) behind f → along readings format move go n (at w) ys left ≡ Err f
+      → lines_fault readings format now behind (present w) (take n (lines_left ys left)) ≡ f)
       → (next : Next) → Stands readings xs room next → after_value (Onward go n t) next ≡ Err f
-      → lines_fault readings now behind (present t) (take (suc n) (lines_left xs room)) ≡ f
+      → lines_fault readings format now behind (present t) (take (suc n) (lines_left xs room)) ≡ f
   fault-next go n t xs room behind f placed short reached again at_end s h =
       fault-none n (present t) (lines_left xs room) behind f short
       (λ u us e. absurd (nil-cons u us (sym (no-lines room) ∙ ap (λ zs. lines_left zs room) (sym s) ∙ e))) (same-fault no_move_text f h)
@@ -250,17 +270,17 @@ module _ (readings : Readings) (now : Bench) (move : Move) (lands : Lands move) 
       let ts = lines_left ys left in
       let short_of : length (s.text ∷ ts) < suc n → behind ≡ no_move_text = subst (λ us. length us < suc n → behind ≡ no_move_text) s.lines short in
       let reached_of : Behind go (suc n) t (s.text ∷ ts) behind f = subst (λ us. Behind go (suc n) t us behind f) s.lines reached in
-      ap (λ us. lines_fault readings now behind (present t) (take (suc n) us)) s.lines
-      ∙ ap (λ (r : Result (Label × State) MoveFault). elim r [ Ok m ↦ lines_fault readings now behind m.1 (take n ts) | Err g ↦ g ])
-      (ap (λ (o : Option Json). elim o [ Some j ↦ value_move readings now (present t) j | None ↦ Err no_move_text ]) s.spelled)
+      ap (λ us. lines_fault readings format now behind (present t) (take (suc n) us)) s.lines
+      ∙ ap (λ (r : Result (Label × State) MoveFault). elim r [ Ok m ↦ lines_fault readings format now behind m.1 (take n ts) | Err g ↦ g ])
+      (ap (λ (o : Option Json). elim o [ Some j ↦ told_value readings format now (present t) j | None ↦ Err no_move_text ]) s.spelled)
       ∙ fault-move go n t s.text ts ys left behind f placed short_of reached_of refl (λ w p few back e. again w ys left p few back e)
-      (value_move readings now (present t) v) h
+      (told_value readings format now (present t) v) h
 
   -- a fault that is read along lines is that of the first faulty one, or what is told behind them
   pub fault-along : (go : Bench → Reader) (n : ℕ) (t : Timeline) (xs : List ℕ) (room : ℕ) (behind f : MoveFault) → IsPlaced t
       → (length (lines_left xs room) < n → behind ≡ no_move_text) → Behind go n t (lines_left xs room) behind f
-      → along readings move go n (at t) xs room ≡ Err f
-      → lines_fault readings now behind (present t) (take n (lines_left xs room)) ≡ f
+      → along readings format move go n (at t) xs room ≡ Err f
+      → lines_fault readings format now behind (present t) (take n (lines_left xs room)) ≡ f
   fault-along go zero t xs room behind f placed short reached h = reached [] xs room refl refl h
   fault-along go (suc n) t xs room behind f placed short reached h =
       fault-next go n t xs room behind f placed short reached (λ w ys left p few back e. fault-along go n w ys left behind f p few back e)

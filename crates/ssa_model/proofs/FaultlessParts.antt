@@ -8,7 +8,7 @@ use Rattle.ssa_model.specs.definitions.Path.{Element, field, value, Path, same_e
 use Rattle.ssa_model.specs.definitions.Kind.{ScalarKind, Kind, Fields, FaultAt, faults, field_faults, entry_faults, value_faults, item_faults, key_faults, item_key, kind_of, or_else, fault_unless, is_of, is_among, unknown_field, duplicate_item, wrong_type, fault_at}
 use Rattle.ssa_model.specs.definitions.Body.{value_order, key_order}
 use Rattle.ssa_model.specs.definitions.Fitting.{are_distinct}
-use Rattle.ssa_model.specs.laws.Faultless.{Fits, FieldsFit, KeysFit, EntriesFit, MemberFits, ItemFits, ValuesFit, ItemsFit, IsScalar}
+use Rattle.ssa_model.specs.laws.Faultless.{Fits, FieldsFit, KeysFit, EntriesFit, MemberFits, ItemFits, ValuesFit, ItemsFit}
 use Rattle.ssa_model.proofs.Faults.{cons≢nil, nil_first, nil_second, unless-true}
 use Rattle.ssa_model.proofs.Fitting.{same_element-true}
 use Rattle.ssa_model.proofs.Tables.{element-itself}

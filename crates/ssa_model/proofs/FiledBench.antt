@@ -1,6 +1,5 @@
 -- The sample's file of whole states is a bench file: what is asked of one is met.
-use Rattle.std.proofs.Common.{◌≡◌, ◌≤◌, ℕ, List, [], ◌∷◌, ◌++◌, length, true, false, not, refl, ap, ◌∙◌, arith, nat_lt, nat_le}
-use Rattle.std.proofs.lemmas.Bool.Decides.{nat_tests}
+use Rattle.std.proofs.Common.{◌≡◌, List, [], ◌∷◌, ◌++◌, length, Bool, true, false, not, ◌||◌, refl, ap, ◌∙◌, arith, nat_lt}
 use Rattle.std.proofs.lemmas.List.Elements.{All-nil, All-cons}
 use Rattle.std.specs.List.{All, list_any}
 use Rattle.std.specs.Prelude.{if◌then◌else◌, codes, Ok, Err}
@@ -12,9 +11,9 @@ use Rattle.ssa_model.specs.definitions.Table.{ManagerKey}
 use Rattle.ssa_model.specs.definitions.Objects.{body_value}
 use Rattle.ssa_model.specs.definitions.Parts.{part_of}
 use Rattle.ssa_model.specs.definitions.Operations.{State, clashes, conflict, too_many_paths, too_many_managers, is_none, if_seated, apply_target, apply}
-use Rattle.ssa_model.specs.definitions.Formats.{IsFile}
+use Rattle.ssa_model.specs.definitions.Formats.{tells_parts, CanTellStep, CanTell, IsFile}
 use Rattle.ssa_model.specs.definitions.RecordedBench.{HasReadStep, HasReadHistory}
-use Rattle.ssa_model.specs.definitions.BenchText.{states, head_json, first_json, step_json, bench_values, bench_text}
+use Rattle.ssa_model.specs.definitions.BenchText.{Format, states, head_json, first_json, step_json, bench_values, bench_text}
 use Rattle.ssa_model.specs.definitions.Valid.{IsValidState, MakesValid}
 use Rattle.ssa_model.specs.definitions.BenchFile.{IsSpelled, IsStep, IsValidBench}
 use Rattle.ssa_model.specs.examples.Sample.{sample_kind}
@@ -112,11 +111,22 @@ module _ (vs : List Json) where
     few = omega arith;
   }
 
+-- each format can tell of the bench
+pub filed-told : (f : Format) → CanTell f filed.timeline
+filed-told f =
+    let told = told (tells_parts f) in
+    record { first = told; later = All-cons (CanTellStep f) applied_step [] (told, told) (All-nil (CanTellStep f)) }
+  where
+    told : (b : Bool) → (b || true) ≡ true
+    told true = refl
+    told false = refl
+
 -- the bench file
 pub states_file_is_met : IsFile (readings_of (bench_values filed)) states (bench_text filed) filed
 states_file_is_met = record {
   valid = filed-valid (bench_values filed);
   paths = read-history (bench_values filed);
+  tells = filed-told states;
   text = refl;
   fits = le-of (length (bench_text filed)) most_bench_bytes refl;
   spelled = values-spelled;

@@ -1,11 +1,11 @@
 -- The values of a text whose first line is known.
-use Rattle.std.proofs.Common.{◌≡◌, ◌≢◌, List, [], ◌∷◌, ◌++◌, true, Option, Some, None, option_map, option_and_then, refl, sym, ap, ◌∙◌}
+use Rattle.std.proofs.Common.{◌≡◌, List, [], ◌∷◌, ◌++◌, true, Option, Some, None, option_map, option_and_then, refl, sym, ap, ◌∙◌}
 use Rattle.std.specs.Prelude.{if◌then◌else◌, Result, Ok, Err}
 use Rattle.ssa_model.specs.definitions.Json.{Text, Json, compact, same_text}
 use Rattle.ssa_model.specs.definitions.Readings.{Readings, ReadFault}
 use Rattle.ssa_model.specs.definitions.Lines.{line_feed, whole_lines, unfinished_line, HasNoLineFeed}
 use Rattle.ssa_model.specs.laws.BenchFiles.{ended_lines, text_lines, spelled_value, spelled_values, values_of}
-use Rattle.ssa_model.proofs.LinesFacts.{split_lines-plain, split_lines-first}
+use Rattle.ssa_model.proofs.LinesFacts.{split_lines-first}
 
 -- ---- the value of a line
 

@@ -7,17 +7,16 @@ use Rattle.std.specs.Prelude.{if◌then◌else◌, nat_le, flat_map, Result, Ok,
 use Rattle.ssa_model.specs.definitions.Limits.{most_bench_bytes}
 use Rattle.ssa_model.specs.definitions.Json.{Text, Json, compact, same_text}
 use Rattle.ssa_model.specs.definitions.Readings.{Readings, ReadFault}
-use Rattle.ssa_model.specs.definitions.Schema.{Schema}
 use Rattle.ssa_model.specs.definitions.History.{Bench}
-use Rattle.ssa_model.specs.definitions.BenchText.{Format, states, records, line, bench_values, bench_text}
+use Rattle.ssa_model.specs.definitions.BenchText.{Format, states, records, parts, line, bench_values}
 use Rattle.ssa_model.specs.definitions.BenchFile.{IsSpelled, IsValidBench}
-use Rattle.ssa_model.specs.definitions.RecordedBench.{record_head, recorded_values, recorded_text, HasReadHistory}
-use Rattle.ssa_model.specs.definitions.Formats.{file_values, file_text, IsFile}
+use Rattle.ssa_model.specs.definitions.RecordedBench.{record_head, recorded_values, HasReadHistory}
+use Rattle.ssa_model.specs.definitions.Formats.{file_values, CanTell, IsFile}
 use Rattle.ssa_model.specs.laws.BenchFiles.{Head, head_in, schema_in, lone_in, steps_in, with_steps, text_lines, spelled_value, spelled_values, values_of, values_bench, bench_in}
-use Rattle.ssa_model.specs.laws.RecordedBenches.{Counts, counts_in, present_in, lines_bench, recorded_bench, recorded_bench_in}
-use Rattle.ssa_model.specs.laws.Formats.{FileHead, of_states, of_records, head_format, either_head, file_head, format_bench, file_bench, file_bench_in, FilesAreTaken, TakenIsFile}
+use Rattle.ssa_model.specs.laws.RecordedBenches.{Counts, IsOfRecords, counts_in, recorded_bench, recorded_bench_in}
+use Rattle.ssa_model.specs.laws.Formats.{FileHead, of_states, of_records, head_format, either_head, file_head, head_bench, file_bench, file_bench_in, FilesAreTaken, TakenIsFile}
 use Rattle.ssa_model.proofs.CompactTexts.{compact-injective}
-use Rattle.ssa_model.proofs.Given.{given-back, and_then-back, map-back, tested-back}
+use Rattle.ssa_model.proofs.Given.{and_then-back, map-back, tested-back}
 use Rattle.ssa_model.proofs.NextValues.{same-first, same-tail}
 use Rattle.ssa_model.proofs.RecordedTaken.{recorded_files_are_taken}
 use Rattle.ssa_model.proofs.RecordedWritten.{counts-from, recorded-written}
@@ -35,7 +34,7 @@ states-head v head is = ap (λ o. either_head (option_map of_states o) (option_m
 
 -- a value that is a head of records is written so, and says no place
 no-place : (v : Json) (counts : Counts) → counts_in v ≡ Some counts → head_in v ≡ None
-no-place v counts is = ap head_in (compact-injective v (record_head counts.past counts.future) (counts-from v counts is))
+no-place v counts is = ap head_in (compact-injective v (record_head counts.format counts.past counts.future) (counts-from v counts is).0)
 
 -- a head of records is one
 pub records-head : (v : Json) (counts : Counts) → counts_in v ≡ Some counts → file_head v ≡ Some (of_records counts)
@@ -56,40 +55,45 @@ has-head v head is = by (head_in v) (counts_in v) refl refl is
     by None (Some c) hs hr e = subst (HasHead v) (same_Some (of_records c) head e) (by_records c hr)
     by None None hs hr e = absurd (none-some head e)
 
--- ---- the bench of a text in a format
+-- ---- the bench of a text by what its first line says
 
 module _ (readings : Readings) where
-  -- the bench that is taken of a text, in a format
-  abbrev pub format_bench_in : Format → Text → Option Bench
-  format_bench_in f t = if nat_le (length t) most_bench_bytes then option_and_then (format_bench readings f) (values_of readings t) else None
+  -- the bench that is taken of a text, by a head
+  abbrev pub head_bench_in : FileHead → Text → Option Bench
+  head_bench_in head t = if nat_le (length t) most_bench_bytes then option_and_then (head_bench readings head) (values_of readings t) else None
 
   abbrev within_limit : Text → Option Bench → Option Bench
   within_limit t o = if nat_le (length t) most_bench_bytes then o else None
 
-  -- where a first value has a head, the text is taken in the format of the head
+  -- where a first value has a head, the text is taken by the head
   pub in-format : (t : Text) (v : Json) (vs : List Json) (head : FileHead) → values_of readings t ≡ Some (v ∷ vs) → file_head v ≡ Some head
-      → file_bench_in readings t ≡ format_bench_in (head_format head) t
+      → file_bench_in readings t ≡ head_bench_in head t
   in-format t v vs head values is =
       ap (λ o. within_limit t (option_and_then (file_bench readings) o)) values
-      ∙ ap (λ o. within_limit t (option_and_then (λ h. format_bench readings (head_format h) (v ∷ vs)) o)) is
-      ∙ sym (ap (λ o. within_limit t (option_and_then (format_bench readings (head_format head)) o)) values)
+      ∙ ap (λ o. within_limit t (option_and_then (λ h. head_bench readings h (v ∷ vs)) o)) is
+      ∙ sym (ap (λ o. within_limit t (option_and_then (head_bench readings head) o)) values)
 
-  -- a bench that is taken in a format comes of a first value with a head of that format
-  record HasFirst (f : Format) (vs : List Json) : Type 0 where
-    pub first : Json
-    pub rest : List Json
-    pub all : vs ≡ first ∷ rest
-    pub head : FileHead
-    pub is : file_head first ≡ Some head
-    pub format : head_format head ≡ f
+  -- a text from whose values a bench is taken by a head that the first of them has is taken as it
+  by-head : (t : Text) (bench : Bench) (v : Json) (vs : List Json) (head : FileHead) → nat_le (length t) most_bench_bytes ≡ true
+      → values_of readings t ≡ Some (v ∷ vs) → file_head v ≡ Some head → head_bench readings head (v ∷ vs) ≡ Some bench → file_bench_in readings t ≡ Some bench
+  by-head t bench v vs head small values headed is =
+      ap (λ o. within_limit t (option_and_then (file_bench readings) o)) values
+      ∙ ap (λ o. within_limit t (option_and_then (λ h. head_bench readings h (v ∷ vs)) o)) headed
+      ∙ ap (within_limit t) is ∙ ap (λ b. if b then Some bench else None) small
 
-  states-first : (vs : List Json) (bench : Bench) → values_bench readings vs ≡ Some bench → HasFirst states vs
-  states-first [] bench is = absurd (none-some bench is)
-  states-first (v ∷ []) bench is = absurd (none-some bench is)
-  states-first (v ∷ source ∷ []) bench is = absurd (none-some bench is)
-  states-first (v ∷ source ∷ first ∷ later) bench is =
+  few : (b : Bool) (o : Option Bench) (bench : Bench) → (if b then o else None) ≡ Some bench → b ≡ true
+  few true o bench h = refl
+  few false o bench h = absurd (none-some bench h)
+
+  -- what is taken as a file of states is taken
+  states-of : (t : Text) (bench : Bench) (vs : List Json) → nat_le (length t) most_bench_bytes ≡ true → values_of readings t ≡ Some vs
+      → values_bench readings vs ≡ Some bench → file_bench_in readings t ≡ Some bench
+  states-of t bench [] small values is = absurd (none-some bench is)
+  states-of t bench (v ∷ []) small values is = absurd (none-some bench is)
+  states-of t bench (v ∷ source ∷ []) small values is = absurd (none-some bench is)
+  states-of t bench (v ∷ source ∷ first ∷ later) small values is =
       let headed = and_then-back of_head (head_in v) bench is in
-      record { first = v; rest = source ∷ first ∷ later; all = refl; head = of_states headed.0; is = states-head v headed.0 headed.1; format = refl }
+      by-head t bench v (source ∷ first ∷ later) (of_states headed.0) small values (states-head v headed.0 headed.1) is
     where
       of_head : Head → Option Bench
       of_head h =
@@ -97,41 +101,30 @@ module _ (readings : Readings) where
           (λ schema. option_and_then (λ lone. option_and_then (with_steps h lone) (steps_in readings lone lone.timeline.first later))
           (lone_in readings schema first)) (schema_in source)
 
-  records-first : (vs : List Json) (bench : Bench) → recorded_bench readings vs ≡ Some bench → HasFirst records vs
-  records-first [] bench is = absurd (none-some bench is)
-  records-first (v ∷ []) bench is = absurd (none-some bench is)
-  records-first (v ∷ source ∷ []) bench is = absurd (none-some bench is)
-  records-first (v ∷ source ∷ now ∷ js) bench is =
-      let counted = and_then-back of_counts (counts_in v) bench is in
-      record { first = v; rest = source ∷ now ∷ js; all = refl; head = of_records counted.0; is = records-head v counted.0 counted.1; format = refl }
-    where
-      of_counts : Counts → Option Bench
-      of_counts c =
-          option_and_then (λ schema. option_and_then (λ bench. lines_bench readings c bench js) (present_in readings schema now)) (schema_in source)
+  states-taken : (t : Text) (bench : Bench) → bench_in readings t ≡ Some bench → file_bench_in readings t ≡ Some bench
+  states-taken t bench is =
+      let small = few (nat_le (length t) most_bench_bytes) (option_and_then (values_bench readings) (values_of readings t)) bench is in
+      let values = and_then-back (values_bench readings) (values_of readings t) bench (tested-back (nat_le (length t) most_bench_bytes) _ bench is) in
+      states-of t bench values.0 small values.1 values.2
 
-  format-first : (f : Format) (vs : List Json) (bench : Bench) → format_bench readings f vs ≡ Some bench → HasFirst f vs
-  format-first states vs bench is = states-first vs bench is
-  format-first records vs bench is = records-first vs bench is
-
-  -- what is taken in a format is taken
-  pub taken-so : (f : Format) (t : Text) (bench : Bench) → format_bench_in f t ≡ Some bench → file_bench_in readings t ≡ Some bench
-  taken-so f t bench is =
-      let all = tested-back (nat_le (length t) most_bench_bytes) _ bench is in
-      let values = and_then-back (format_bench readings f) (values_of readings t) bench all in
-      let first = format-first f values.0 bench values.2 in
-      in-format t first.first first.rest first.head (values.1 ∙ ap Some first.all) first.is ∙ ap (λ g. format_bench_in g t) first.format ∙ is
+  -- and what is taken as a file of records
+  records-taken : (t : Text) (bench : Bench) → recorded_bench_in readings t ≡ Some bench → file_bench_in readings t ≡ Some bench
+  records-taken t bench is =
+      let small = few (nat_le (length t) most_bench_bytes) (option_and_then (recorded_bench readings) (values_of readings t)) bench is in
+      let values = and_then-back (recorded_bench readings) (values_of readings t) bench (tested-back (nat_le (length t) most_bench_bytes) _ bench is) in
+      let w = recorded-written readings values.0 bench values.2 in
+      by-head t bench w.head w.rest (of_records w.counts) small (values.1 ∙ ap Some w.all) (records-head w.head w.counts w.counted)
+      (ap (recorded_bench readings) (sym w.all) ∙ values.2)
 
 -- ---- the file of a bench
 
--- the text of a file in a format is taken in that format
-taken-in-format : (readings : Readings) (f : Format) (t : Text) (bench : Bench) → IsFile readings f t bench → format_bench_in readings f t ≡ Some bench
-taken-in-format readings states t bench file =
-    ap (bench_in readings) file.text
-    ∙ bench_file_is_taken readings bench file.valid (subst (λ x. length x ≤ most_bench_bytes) file.text file.fits) file.spelled
-taken-in-format readings records t bench file = recorded_files_are_taken readings t bench file
-
 pub files_are_taken : FilesAreTaken
-files_are_taken readings f t bench file = taken-so readings f t bench (taken-in-format readings f t bench file)
+files_are_taken readings states t bench file =
+    states-taken readings t bench
+    (ap (bench_in readings) file.text
+    ∙ bench_file_is_taken readings bench file.valid file.tells (subst (λ x. length x ≤ most_bench_bytes) file.text file.fits) file.spelled)
+files_are_taken readings records t bench file = records-taken readings t bench (recorded_files_are_taken readings records t bench refl file)
+files_are_taken readings parts t bench file = records-taken readings t bench (recorded_files_are_taken readings parts t bench refl file)
 
 -- ---- what is taken
 
@@ -145,10 +138,29 @@ same-values (v ∷ vs) (w ∷ ws) e =
     let rest = same-values vs ws (same-tail (compact v) (compact w) (map compact vs) (map compact ws) e) in
     λ i. first i ∷ rest i
 
--- the values from which a bench is taken in a format are those that are written of it
-values-are : (readings : Readings) (f : Format) (vs : List Json) (bench : Bench) → format_bench readings f vs ≡ Some bench → vs ≡ file_values f bench
-values-are readings states vs bench is = same-values vs (bench_values bench) (values-written readings vs bench is)
-values-are readings records vs bench is = same-values vs (recorded_values bench) (recorded-written readings vs bench is)
+-- The values from which a bench is taken by a head are those that are written of it in the head's format, which can tell of it.
+record AreValues (f : Format) (vs : List Json) (bench : Bench) : Type 0 where
+  pub same : vs ≡ file_values f bench
+  pub tells : CanTell f bench.timeline
+
+-- in a format of records
+of-records : (f : Format) (vs : List Json) (bench : Bench) → IsOfRecords f → vs ≡ recorded_values f bench → CanTell f bench.timeline → AreValues f vs bench
+of-records states vs bench known same tells = absurd (none-some states known)
+of-records records vs bench known same tells = record { same = same; tells = tells }
+of-records parts vs bench known same tells = record { same = same; tells = tells }
+
+values-are : (readings : Readings) (v : Json) (vs : List Json) (head : FileHead) (bench : Bench) → HasHead v head
+    → head_bench readings head (v ∷ vs) ≡ Some bench → AreValues (head_format head) (v ∷ vs) bench
+values-are readings v vs (of_states k) bench (by_states h took) is =
+    let w = values-written readings (v ∷ vs) bench is in
+    record { same = same-values (v ∷ vs) (bench_values bench) w.0; tells = w.1 }
+values-are readings v vs (of_records k) bench (by_records c took) is =
+    let w = recorded-written readings (v ∷ vs) bench is in
+    let head = same-first v w.head vs w.rest w.all in
+    let counts : w.counts ≡ c = same_Some w.counts c (sym w.counted ∙ ap counts_in (sym head) ∙ took) in
+    let f = ap (λ (x : Counts). x.format) counts in
+    let written = same-values (v ∷ vs) (recorded_values w.counts.format bench) w.is in
+    of-records c.format (v ∷ vs) bench (counts-from v c took).1 (written ∙ ap (λ g. recorded_values g bench) f) (subst (λ g. CanTell g bench.timeline) f w.tells)
 
 -- the value of a line is read from its text
 spelled-is : (readings : Readings) (t : Text) (v : Json) → spelled_value readings t ≡ Some v → IsSpelled readings v
@@ -177,25 +189,25 @@ module _ (readings : Readings) (t : Text) (bench : Bench) (valid : IsValidBench 
   abbrev Filed : Type 0
   Filed = (f : Format) × IsFile readings f t bench
 
-  filed : (f : Format) (vs : List Json) → length t ≤ most_bench_bytes → values_of readings t ≡ Some vs → format_bench readings f vs ≡ Some bench → Filed
-  filed f vs small values is =
-      let ls = and_then-back (spelled_values readings) (text_lines t) vs values in
-      let same = values-are readings f vs bench is in (
+  filed : (f : Format) (vs : List Json) → length t ≤ most_bench_bytes → values_of readings t ≡ Some vs → AreValues f vs bench → Filed
+  filed f vs small values are =
+      let ls = and_then-back (spelled_values readings) (text_lines t) vs values in (
         f,
         record {
           valid = valid;
           paths = paths;
-          text = text-of-values readings t ls.0 vs ls.1 ls.2 ∙ ap (flat_map line) same;
+          tells = are.tells;
+          text = text-of-values readings t ls.0 vs ls.1 ls.2 ∙ ap (flat_map line) are.same;
           fits = small;
-          spelled = subst (All (IsSpelled readings)) same (all-spelled readings ls.0 vs ls.2);
+          spelled = subst (All (IsSpelled readings)) are.same (all-spelled readings ls.0 vs ls.2);
         },
       )
 
   filed-values : (vs : List Json) → length t ≤ most_bench_bytes → values_of readings t ≡ Some vs → file_bench readings vs ≡ Some bench → Filed
   filed-values [] small values is = absurd (none-some bench is)
   filed-values (v ∷ vs) small values is =
-      let headed = and_then-back (λ head. format_bench readings (head_format head) (v ∷ vs)) (file_head v) bench is in
-      filed (head_format headed.0) (v ∷ vs) small values headed.2
+      let headed = and_then-back (λ head. head_bench readings head (v ∷ vs)) (file_head v) bench is in
+      filed (head_format headed.0) (v ∷ vs) small values (values-are readings v vs headed.0 bench (has-head v headed.0 headed.1) headed.2)
 
 pub taken_is_file : TakenIsFile
 taken_is_file readings t bench is valid paths =

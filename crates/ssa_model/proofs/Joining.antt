@@ -1,5 +1,5 @@
 -- Two orders joined, where the elements of both stand in one order in each, and how many elements of each are the other's.
-use Rattle.std.proofs.Common.{◌≡◌, ℕ, suc, List, [], ◌∷◌, ◌++◌, length, Bool, true, false, not, ◌||◌, cond, refl, sym, ap, ◌∙◌, true≢false}
+use Rattle.std.proofs.Common.{◌≡◌, ℕ, suc, List, [], ◌∷◌, ◌++◌, length, Bool, true, false, not, ◌||◌, cond, refl, sym, ap, ◌∙◌}
 use Rattle.std.specs.Prelude.{filter}
 use Rattle.ssa_model.specs.definitions.Body.{joined, laid}
 use Rattle.ssa_model.specs.definitions.Fitting.{are_distinct}

@@ -1,5 +1,5 @@
 -- What is read of a bench file line by line is what is taken of its text, or the fault of its first faulty line.
-use Rattle.std.proofs.Common.{◌≡◌, ◌≢◌, ◌≤◌, ℕ, List, [], ◌∷◌, length, Bool, true, false, Option, Some, None, option_map, option_and_then, refl, sym, ap, ◌∙◌}
+use Rattle.std.proofs.Common.{◌≡◌, ◌≤◌, ℕ, List, [], ◌∷◌, length, Option, Some, None, option_map, option_and_then, refl, sym, ap, ◌∙◌}
 use Rattle.std.specs.Prelude.{if◌then◌else◌, nat_le, Result, Ok, Err}
 use Rattle.std.proofs.lemmas.Option.{same_Some, none-some}
 use Rattle.ssa_model.specs.definitions.Limits.{most_bench_bytes}
@@ -7,15 +7,15 @@ use Rattle.ssa_model.specs.definitions.Json.{Text, Json}
 use Rattle.ssa_model.specs.definitions.Readings.{Readings}
 use Rattle.ssa_model.specs.definitions.History.{Bench}
 use Rattle.ssa_model.specs.laws.BenchFiles.{Head, head_in, schema_in, spelled_value, values_of, bench_in}
-use Rattle.ssa_model.specs.laws.RecordedBenches.{Counts, counts_in, MoveFault, no_move_text, recorded_bench_in, recorded_fault}
-use Rattle.ssa_model.specs.laws.Formats.{FileHead, of_states, of_records, head_format, file_head, format_bench, file_bench, file_bench_in, format_fault, first_head, lines_file_fault, file_fault}
-use Rattle.ssa_model.specs.laws.LineByLine.{Next, at_end, no_value, value_then, Reader, next_value, after_value, after_part, with_part, shown_in, rest_from, file_from, FilesAreRead}
+use Rattle.ssa_model.specs.laws.RecordedBenches.{Counts, counts_in, MoveFault, no_move_text, recorded_bench_in}
+use Rattle.ssa_model.specs.laws.Formats.{FileHead, of_states, of_records, file_head, head_bench, file_bench, file_bench_in, head_fault, first_head, lines_file_fault, file_fault}
+use Rattle.ssa_model.specs.laws.LineByLine.{Next, at_end, no_value, value_then, Reader, next_value, after_value, after_part, with_part, shown_in, rest_from, FilesAreRead}
 use Rattle.ssa_model.proofs.AlongLines.{part_of}
 use Rattle.ssa_model.proofs.FormatFiles.{HasHead, by_states, by_records, has-head, in-format}
 use Rattle.ssa_model.proofs.Given.{and_then-back, tested-back}
 use Rattle.ssa_model.proofs.NextValues.{nil-cons, same-first, lines_left, no-lines, no-values, HasNext, Stands, stands, next-values, lines-of-values}
-use Rattle.ssa_model.proofs.RecordsRead.{after_head, recorded_from, records_are_read, within-limit}
-use Rattle.ssa_model.proofs.StatesRead.{behind_head, stated_from, states_are_read}
+use Rattle.ssa_model.proofs.RecordsRead.{after_head, records_are_read, within-limit}
+use Rattle.ssa_model.proofs.StatesRead.{behind_head, states_are_read}
 
 -- a result, or the fault where there is none
 abbrev told_by : MoveFault → Option Bench → Result Bench MoveFault
@@ -43,7 +43,7 @@ module _ (readings : Readings) (t : Text) where
       absent bench [] values is taken = none-some bench taken
       absent bench (v ∷ vs) values is taken =
           let small = within-limit (length t) (option_and_then (file_bench readings) (values_of readings t)) bench is in
-          none-some bench (sym (ap (option_and_then (λ head. format_bench readings (head_format head) (v ∷ vs))) (none v vs values small)) ∙ taken)
+          none-some bench (sym (ap (option_and_then (λ head. head_bench readings head (v ∷ vs))) (none v vs values small)) ∙ taken)
 
       by : (o : Option Bench) → file_bench_in readings t ≡ o → o ≡ None
       by None e = refl
@@ -57,7 +57,7 @@ module _ (readings : Readings) (t : Text) where
     where
       by : (ts : List Text) → all_lines ≡ ts → lines_file_fault readings ts ≡ no_move_text
       by [] e = refl
-      by (u ∷ us) e = ap (λ o. elim o [ Some head ↦ format_fault readings (head_format head) (u ∷ us) | None ↦ no_move_text ]) (none u us e)
+      by (u ∷ us) e = ap (λ o. elim o [ Some head ↦ head_fault readings head (u ∷ us) | None ↦ no_move_text ]) (none u us e)
 
   headless : ((v : Json) (vs : List Json) → values_of readings t ≡ Some (v ∷ vs) → length t ≤ most_bench_bytes → file_head v ≡ None)
       → ((u : Text) (us : List Text) → all_lines ≡ u ∷ us → part_of readings file_head u ≡ None) → Told (Err no_move_text)
@@ -68,11 +68,11 @@ module _ (readings : Readings) (t : Text) where
   module _ (v : Json) (ys : List ℕ) (left : ℕ) (next : HasNext readings t most_bench_bytes v ys left)
       (is : next_value readings most_bench_bytes t ≡ value_then v ys left) where
     -- the lines begin with the head's
-    faulty : (head : FileHead) → file_head v ≡ Some head → file_fault readings t ≡ format_fault readings (head_format head) all_lines
+    faulty : (head : FileHead) → file_head v ≡ Some head → file_fault readings t ≡ head_fault readings head all_lines
     faulty head headed =
-        ap (λ ts. elim (first_head readings ts) [ Some h ↦ format_fault readings (head_format h) all_lines | None ↦ no_move_text ]) next.lines
-        ∙ ap (λ o. elim (option_and_then file_head o) [ Some h ↦ format_fault readings (head_format h) all_lines | None ↦ no_move_text ]) next.spelled
-        ∙ ap (λ o. elim o [ Some h ↦ format_fault readings (head_format h) all_lines | None ↦ no_move_text ]) headed
+        ap (λ ts. elim (first_head readings ts) [ Some h ↦ head_fault readings h all_lines | None ↦ no_move_text ]) next.lines
+        ∙ ap (λ o. elim (option_and_then file_head o) [ Some h ↦ head_fault readings h all_lines | None ↦ no_move_text ]) next.spelled
+        ∙ ap (λ o. elim o [ Some h ↦ head_fault readings h all_lines | None ↦ no_move_text ]) headed
 
     -- all lines but the first have values, or some have none
     taken-as : (head : FileHead) (whole : Option Bench) → file_head v ≡ Some head
@@ -95,7 +95,7 @@ module _ (readings : Readings) (t : Text) where
         taken-as (of_states head) (bench_in readings t) headed
         (λ ws e. in-format readings t v ws (of_states head) (values (Some ws) e) headed)
         (λ e. ap (λ o. limited (option_and_then (file_bench readings) o)) (values None e)
-        ∙ sym (ap (λ o. limited (option_and_then (format_bench readings (head_format (of_states head))) o)) (values None e)))
+        ∙ sym (ap (λ o. limited (option_and_then (head_bench readings (of_states head)) o)) (values None e)))
 
     of-records : (counts : Counts) → counts_in v ≡ Some counts → file_head v ≡ Some (of_records counts)
         → file_bench_in readings t ≡ recorded_bench_in readings t
@@ -103,7 +103,7 @@ module _ (readings : Readings) (t : Text) where
         taken-as (of_records counts) (recorded_bench_in readings t) headed
         (λ ws e. in-format readings t v ws (of_records counts) (values (Some ws) e) headed)
         (λ e. ap (λ o. limited (option_and_then (file_bench readings) o)) (values None e)
-        ∙ sym (ap (λ o. limited (option_and_then (format_bench readings (head_format (of_records counts))) o)) (values None e)))
+        ∙ sym (ap (λ o. limited (option_and_then (head_bench readings (of_records counts)) o)) (values None e)))
 
     in-states : (head : Head) → head_in v ≡ Some head → file_head v ≡ Some (of_states head) → Told (behind_head readings head ys left)
     in-states head took headed =

@@ -1,15 +1,14 @@
 -- What a reader of a text has read of it: the lines so far, their values, and how many bytes there may still be.
-use Rattle.std.proofs.Common.{◌≡◌, ◌≢◌, ◌≤◌, ℕ, suc, ◌+◌, ◌-◌, length, List, [], ◌∷◌, ◌++◌, true, false, Option, Some, None, option_map, option_and_then, refl, sym, ap, ◌∙◌, arith, length-append, append_assoc, append-nil}
+use Rattle.std.proofs.Common.{◌≡◌, ◌≤◌, ℕ, suc, ◌+◌, ◌-◌, length, List, [], ◌∷◌, ◌++◌, true, Option, Some, None, option_map, option_and_then, refl, sym, ap, ◌∙◌, arith, length-append, append_assoc, append-nil}
 use Rattle.std.proofs.lemmas.Bool.Decides.{nat_tests}
 use Rattle.std.specs.Prelude.{if◌then◌else◌, nat_lt}
 use Rattle.ssa_model.specs.definitions.Json.{Text, Json}
 use Rattle.ssa_model.specs.definitions.Readings.{Readings}
-use Rattle.ssa_model.specs.definitions.Lines.{line_feed, split_lines, whole_lines, unfinished_line, ended}
-use Rattle.ssa_model.specs.laws.BenchFiles.{ended_lines, spelled_value, spelled_values, values_of}
+use Rattle.ssa_model.specs.definitions.Lines.{line_feed, ended}
+use Rattle.ssa_model.specs.laws.BenchFiles.{spelled_value, spelled_values, values_of}
 use Rattle.ssa_model.specs.laws.RecordedBenches.{lines_within}
 use Rattle.ssa_model.proofs.FirstValues.{values-first}
-use Rattle.ssa_model.proofs.LinesFacts.{HaveNoLineFeed, split_lines-after, ended-split_lines}
-use Rattle.ssa_model.proofs.Basics.{at_most as long}
+use Rattle.ssa_model.proofs.LinesFacts.{HaveNoLineFeed}
 
 -- ---- the lines so far
 

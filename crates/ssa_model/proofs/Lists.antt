@@ -4,9 +4,9 @@ use Rattle.std.specs.Prelude.{filter, is_some}
 use Rattle.std.specs.List.{list_any}
 use Rattle.std.specs.FinMap.Entries.{put, by_order, is_some-find}
 use Rattle.ssa_model.specs.definitions.Path.{Path, path_cmp, same_path}
-use Rattle.ssa_model.specs.definitions.PathMap.{from_entries, has, paths, set_of, listed, marked, insert}
+use Rattle.ssa_model.specs.definitions.PathMap.{from_entries, has, paths, listed, marked, insert}
 use Rattle.ssa_model.proofs.Texts.{same_path_same}
-use Rattle.ssa_model.proofs.PathMaps.{is_one_of, get-from_entries, same_path-true, has-paths, same_sets, has-set_of, insert_swap}
+use Rattle.ssa_model.proofs.PathMaps.{is_one_of, get-from_entries, same_path-true, insert_swap}
 use Rattle.ssa_model.proofs.Basics.{or_swap, or_twice}
 
 module _ {X : Type 0} where

@@ -54,14 +54,14 @@ module _ (readings : Readings) (bench : Bench) (valid : IsValidBench readings be
 
 -- all values of a valid bench's file of records are shallow, where no object of its schema names a member twice
 pub recorded_bench_is_shallow : RecordedBenchIsShallow
-recorded_bench_is_shallow readings bench valid apart =
+recorded_bench_is_shallow readings f bench valid apart =
     let t = bench.timeline in
     let now = present t in
     let now_valid = present_valid bench.schema.kind t valid.states in
     let back = past_lines bench t.first (past_steps t) in
     let on = future_lines bench now (future_steps t) in
     let object = object-shallow readings bench valid now now_valid in
-    All-cons IsShallow (record_head (past_len t) (future_len t)) (bench.schema.source ∷ whole_object bench now ∷ back ++ on) (omega arith)
+    All-cons IsShallow (record_head f (past_len t) (future_len t)) (bench.schema.source ∷ whole_object bench now ∷ back ++ on) (omega arith)
     (All-cons IsShallow bench.schema.source (whole_object bench now ∷ back ++ on) (schema_is_shallow bench.schema.source bench.schema.kind apart valid.read)
     (All-cons IsShallow (whole_object bench now) (back ++ on) (omega arith)
     (All-append IsShallow back on

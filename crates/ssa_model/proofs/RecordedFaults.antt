@@ -1,7 +1,6 @@
 -- A text that is taken as a bench file of records has no line with a fault of its own, and a written line has the shape of one.
-use Rattle.std.proofs.Common.{◌≡◌, ◌≤◌, ℕ, zero, suc, length, List, [], ◌∷◌, take, drop, Bool, true, false, ◌&&◌, ◌||◌, Option, Some, None, option_map, option_and_then, refl, sym, ap, ◌∙◌, subst, arith}
+use Rattle.std.proofs.Common.{◌≡◌, ◌≤◌, ℕ, zero, suc, length, List, [], ◌∷◌, take, drop, Bool, true, false, ◌&&◌, ◌||◌, Option, Some, None, option_map, option_and_then, refl, sym, ap, ◌∙◌, subst}
 use Rattle.std.proofs.lemmas.Bool.{and_from}
-use Rattle.std.proofs.lemmas.Bool.Decides.{nat_tests}
 use Rattle.std.proofs.lemmas.Option.{same_Some, none-some}
 use Rattle.std.specs.Prelude.{if◌then◌else◌, nat_le, Result, Ok, Err}
 use Rattle.ssa_model.specs.definitions.Limits.{most_bench_bytes}
@@ -18,8 +17,10 @@ use Rattle.ssa_model.specs.definitions.BenchFile.{IsLabel}
 use Rattle.ssa_model.specs.definitions.Record.{record_of}
 use Rattle.ssa_model.specs.definitions.RecordText.{record_json}
 use Rattle.ssa_model.specs.definitions.RecordReading.{is_record_shape}
+use Rattle.ssa_model.specs.definitions.BenchText.{Format}
+use Rattle.ssa_model.specs.definitions.Formats.{can_tell_line}
 use Rattle.ssa_model.specs.laws.BenchFiles.{ended_lines, text_lines, spelled_value, spelled_values, values_of, is_written_as, schema_in, is_label}
-use Rattle.ssa_model.specs.laws.RecordedBenches.{Counts, counts_in, present_in, move_in, past_in, future_in, with_moves, lines_bench, recorded_bench, recorded_bench_in, MoveFault, no_move_text, record_does_not_fit, is_label_shape, refused_fault, value_move, line_move, lines_fault, lines_within, moves_fault, opening_in, texts_fault, recorded_fault, MisfitIsRefused, MovesHaveShape}
+use Rattle.ssa_model.specs.laws.RecordedBenches.{Counts, counts_in, present_in, move_in, told_move, past_in, future_in, with_moves, lines_bench, recorded_bench, recorded_bench_in, MoveFault, no_move_text, record_does_not_fit, is_label_shape, refused_fault, value_move, told_value, line_move, lines_fault, lines_within, moves_fault, opening_in, texts_fault, recorded_fault, MisfitIsRefused, MovesHaveShape}
 use Rattle.ssa_model.proofs.Given.{and_then-back, map-back}
 use Rattle.ssa_model.proofs.LinesRead.{lines_within-all}
 use Rattle.ssa_model.proofs.RecordsBack.{record_texts_have_shape}
@@ -69,41 +70,46 @@ first-read readings t ts vs h =
     record { value = own.0; rest = rest.0; read = own.1; later = rest.1; all = sym rest.2 }
 
 -- a line whose value is read and taken is taken
-module _ (readings : Readings) (bench : Bench) (behind : MoveFault) where
-  line-taken : (v : State) (t : Text) (j : Json) (m : Label × State) → spelled_value readings t ≡ Some j → move_in readings bench v j ≡ Some m
-      → line_move readings bench v t ≡ Ok m
+module _ (readings : Readings) (f : Format) (bench : Bench) (behind : MoveFault) where
+  line-taken : (v : State) (t : Text) (j : Json) (m : Label × State) → spelled_value readings t ≡ Some j → told_move readings f bench v j ≡ Some m
+      → line_move readings f bench v t ≡ Ok m
   line-taken v t j m spelled is =
-      ap (λ (o : Option Json). elim o [ Some j ↦ value_move readings bench v j | None ↦ Err no_move_text ]) spelled ∙ of_move (move_in readings bench v j) is
+      ap (λ (o : Option Json). elim o [ Some j ↦ told_value readings f bench v j | None ↦ Err no_move_text ]) spelled ∙ told (can_tell_line f j) is
     where
       of_move : (o : Option (Label × State)) → o ≡ Some m
           → ◌≡◌ {A = Result (Label × State) MoveFault} (elim o [ Some m ↦ Ok m | None ↦ Err (refused_fault readings j) ]) (Ok m)
       of_move (Some n) is = ap Ok (same_Some n m is)
       of_move None is = absurd (none-some m is)
 
-  next-line : (v : State) (t : Text) (m : Label × State) (ts : List Text) → line_move readings bench v t ≡ Ok m
-      → lines_fault readings bench behind v (t ∷ ts) ≡ lines_fault readings bench behind m.1 ts
-  next-line v t m ts is = ap (λ (r : Result (Label × State) MoveFault). elim r [ Ok m ↦ lines_fault readings bench behind m.1 ts | Err f ↦ f ]) is
+      told : (b : Bool) → (if b then move_in readings bench v j else None) ≡ Some m
+          → ◌≡◌ {A = Result (Label × State) MoveFault} (if b then value_move readings bench v j else Err no_move_text) (Ok m)
+      told true is = of_move (move_in readings bench v j) is
+      told false is = absurd (none-some m is)
+
+  next-line : (v : State) (t : Text) (m : Label × State) (ts : List Text) → line_move readings f bench v t ≡ Ok m
+      → lines_fault readings f bench behind v (t ∷ ts) ≡ lines_fault readings f bench behind m.1 ts
+  next-line v t m ts is = ap (λ (r : Result (Label × State) MoveFault). elim r [ Ok m ↦ lines_fault readings f bench behind m.1 ts | Err e ↦ e ]) is
 
   past-faultless : (n : ℕ) (v : State) (ts : List Text) (js : List Json) (acc : List Step) (r : State × List Step)
-      → spelled_values readings ts ≡ Some js → past_in readings bench v (take n js) acc ≡ Some r → lines_fault readings bench behind v (take n ts) ≡ behind
+      → spelled_values readings ts ≡ Some js → past_in readings f bench v (take n js) acc ≡ Some r → lines_fault readings f bench behind v (take n ts) ≡ behind
   past-faultless zero v ts js acc r spelled is = refl
   past-faultless (suc n) v [] js acc r spelled is = refl
   past-faultless (suc n) v (t ∷ ts) js acc r spelled is =
       let own = first-read readings t ts js spelled in
-      let of_move = λ (m : Label × State). past_in readings bench m.1 (take n own.rest) (record { label = m.0; state = v } ∷ acc) in
-      let moved = and_then-back of_move (move_in readings bench v own.value) r (ap (λ xs. past_in readings bench v (take (suc n) xs) acc) (sym own.all) ∙ is) in
+      let of_move = λ (m : Label × State). past_in readings f bench m.1 (take n own.rest) (record { label = m.0; state = v } ∷ acc) in
+      let moved = and_then-back of_move (told_move readings f bench v own.value) r (ap (λ xs. past_in readings f bench v (take (suc n) xs) acc) (sym own.all) ∙ is) in
       next-line v t moved.0 (take n ts) (line-taken v t own.value moved.0 own.read moved.1)
       ∙ past-faultless n moved.0.1 ts own.rest (record { label = moved.0.0; state = v } ∷ acc) r own.later moved.2
 
   future-faultless : (n : ℕ) (v : State) (ts : List Text) (js : List Json) (ss : List Step)
-      → spelled_values readings ts ≡ Some js → future_in readings bench v js ≡ Some ss → lines_fault readings bench behind v (take n ts) ≡ behind
+      → spelled_values readings ts ≡ Some js → future_in readings f bench v js ≡ Some ss → lines_fault readings f bench behind v (take n ts) ≡ behind
   future-faultless zero v ts js ss spelled is = refl
   future-faultless (suc n) v [] js ss spelled is = refl
   future-faultless (suc n) v (t ∷ ts) js ss spelled is =
       let own = first-read readings t ts js spelled in
-      let of_move = λ (m : Label × State). option_map (λ xs. record { label = m.0; state = m.1 } ∷ xs) (future_in readings bench m.1 own.rest) in
-      let moved = and_then-back of_move (move_in readings bench v own.value) ss (ap (future_in readings bench v) (sym own.all) ∙ is) in
-      let later = map-back (λ xs. record { label = moved.0.0; state = moved.0.1 } ∷ xs) (future_in readings bench moved.0.1 own.rest) ss moved.2 in
+      let of_move = λ (m : Label × State). option_map (λ xs. record { label = m.0; state = m.1 } ∷ xs) (future_in readings f bench m.1 own.rest) in
+      let moved = and_then-back of_move (told_move readings f bench v own.value) ss (ap (future_in readings f bench v) (sym own.all) ∙ is) in
+      let later = map-back (λ xs. record { label = moved.0.0; state = moved.0.1 } ∷ xs) (future_in readings f bench moved.0.1 own.rest) ss moved.2 in
       next-line v t moved.0 (take n ts) (line-taken v t own.value moved.0 own.read moved.1)
       ∙ future-faultless n moved.0.1 ts own.rest later.0 own.later later.1
 
@@ -122,34 +128,34 @@ module _ (readings : Readings) (bench : Bench) where
       → spelled_values readings ts ≡ Some js → lines_bench readings counts now js ≡ Some bench → moves_fault readings counts now ts ≡ no_move_text
   moves-faultless counts now ts js spelled is =
       let v = now.timeline.first in
-      let of_past = λ (past : State × List Step). option_and_then (with_moves counts now js past) (future_in readings now v (drop counts.past js)) in
-      let past = and_then-back of_past (past_in readings now v (take counts.past js) []) bench is in
-      let future = and_then-back (with_moves counts now js past.0) (future_in readings now v (drop counts.past js)) bench past.2 in
-      let behind = lines_fault readings now no_move_text v (take counts.future (drop counts.past ts)) in
-      past-faultless readings now behind counts.past v ts js [] past.0 spelled past.1
-      ∙ future-faultless readings now no_move_text counts.future v (drop counts.past ts) (drop counts.past js) future.0
+      let of_past = λ (past : State × List Step). option_and_then (with_moves counts now js past) (future_in readings counts.format now v (drop counts.past js)) in
+      let past = and_then-back of_past (past_in readings counts.format now v (take counts.past js) []) bench is in
+      let future = and_then-back (with_moves counts now js past.0) (future_in readings counts.format now v (drop counts.past js)) bench past.2 in
+      let behind = lines_fault readings counts.format now no_move_text v (take counts.future (drop counts.past ts)) in
+      past-faultless readings counts.format now behind counts.past v ts js [] past.0 spelled past.1
+      ∙ future-faultless readings counts.format now no_move_text counts.future v (drop counts.past ts) (drop counts.past js) future.0
       (spelled-drop readings counts.past ts js spelled) future.1
 
   abbrev of_schema : Counts → Json → List Json → Schema → Option Bench
-  of_schema counts now js schema = option_and_then (λ b. lines_bench readings counts b js) (present_in readings schema now)
+  of_schema counts now js schema = option_and_then (λ b. lines_bench readings counts b js) (present_in readings counts.format schema now)
 
   abbrev of_counts : Json → Json → List Json → Counts → Option Bench
   of_counts source now js counts = option_and_then (of_schema counts now js) (schema_in source)
 
   abbrev opening : Text → Text → Counts → Option (Counts × Bench)
   opening b c counts =
-      option_and_then (λ schema. option_map (λ (x : Bench). (counts, x)) (option_and_then (present_in readings schema) (spelled_value readings c)))
+      option_and_then (λ schema. option_map (λ (x : Bench). (counts, x)) (option_and_then (present_in readings counts.format schema) (spelled_value readings c)))
       (option_and_then schema_in (spelled_value readings b))
 
   opening-is : (a b c : Text) (head source now : Json) (counts : Counts) (schema : Schema) (there : Bench)
       → spelled_value readings a ≡ Some head → spelled_value readings b ≡ Some source → spelled_value readings c ≡ Some now
-      → counts_in head ≡ Some counts → schema_in source ≡ Some schema → present_in readings schema now ≡ Some there
+      → counts_in head ≡ Some counts → schema_in source ≡ Some schema → present_in readings counts.format schema now ≡ Some there
       → opening_in readings a b c ≡ Some (counts, there)
   opening-is a b c head source now counts schema there sa sb sc counted schemed is =
       ap (option_and_then (opening b c)) (ap (option_and_then counts_in) sa ∙ counted)
-      ∙ ap (option_and_then (λ schema. option_map (λ (x : Bench). (counts, x)) (option_and_then (present_in readings schema) (spelled_value readings c))))
+      ∙ ap (option_and_then (λ schema. option_map (λ (x : Bench). (counts, x)) (option_and_then (present_in readings counts.format schema) (spelled_value readings c))))
       (ap (option_and_then schema_in) sb ∙ schemed)
-      ∙ ap (option_map (λ (x : Bench). (counts, x))) (ap (option_and_then (present_in readings schema)) sc ∙ is)
+      ∙ ap (option_map (λ (x : Bench). (counts, x))) (ap (option_and_then (present_in readings counts.format schema)) sc ∙ is)
 
   opened-faultless : (a b c : Text) (ts : List Text) (head source now : Json) (js : List Json)
       → spelled_value readings a ≡ Some head → spelled_value readings b ≡ Some source → spelled_value readings c ≡ Some now
@@ -158,7 +164,7 @@ module _ (readings : Readings) (bench : Bench) where
   opened-faultless a b c ts head source now js sa sb sc spelled is =
       let counts = and_then-back (of_counts source now js) (counts_in head) bench is in
       let schema = and_then-back (of_schema counts.0 now js) (schema_in source) bench counts.2 in
-      let there = and_then-back (λ b. lines_bench readings counts.0 b js) (present_in readings schema.0 now) bench schema.2 in
+      let there = and_then-back (λ b. lines_bench readings counts.0 b js) (present_in readings counts.0.format schema.0 now) bench schema.2 in
       by-opening counts.0 there.0 (opening-is a b c head source now counts.0 schema.0 there.0 sa sb sc counts.1 schema.1 there.1) there.2
     where
       by-opening : (counts : Counts) (there : Bench) → opening_in readings a b c ≡ Some (counts, there) → lines_bench readings counts there js ≡ Some bench

@@ -1,12 +1,11 @@
--- The sample's bench file of records is one: what is asked of such a file, and of its lines, is met.
-use Rattle.std.proofs.Common.{◌≡◌, [], ◌∷◌, length, refl, ap}
+-- The sample's bench has a file in each format: what is asked of such a file, and of the lines of records, is met.
+use Rattle.std.proofs.Common.{◌≡◌, [], ◌∷◌, length, false, refl, ap}
 use Rattle.std.proofs.lemmas.List.Elements.{All-nil, All-cons, All-head}
-use Rattle.std.specs.List.{All}
+use Rattle.std.specs.List.{All, list_any}
 use Rattle.std.specs.Prelude.{codes}
 use Rattle.ssa_model.specs.definitions.Limits.{most_bench_bytes}
-use Rattle.ssa_model.specs.definitions.Json.{list, no_items}
-use Rattle.ssa_model.specs.definitions.BenchText.{states, records, whole_object}
-use Rattle.ssa_model.specs.definitions.Formats.{IsFile}
+use Rattle.ssa_model.specs.definitions.Json.{Json, list, no_items, compact, same_text}
+use Rattle.ssa_model.specs.definitions.BenchText.{Format, states, records, parts, whole_object}
 use Rattle.ssa_model.specs.definitions.BenchFile.{IsReadBack, IsStep, IsSpelled}
 use Rattle.ssa_model.specs.definitions.Operations.{State}
 use Rattle.ssa_model.specs.definitions.RecordReading.{member_in, HasReadPaths}
@@ -17,50 +16,64 @@ use Rattle.ssa_model.specs.examples.Sample.{sample_kind}
 use Rattle.ssa_model.specs.examples.FileRows.{readings_of, applied_step, filed}
 use Rattle.ssa_model.specs.examples.RecordedRows.{one_gone, RecordedMovesAreMet}
 use Rattle.ssa_model.specs.examples.FormatRows.{FilesAreMet}
-use Rattle.ssa_model.proofs.FiledBench.{spelled-in, read-history, filed-valid, first-valid, applied-valid, states_file_is_met}
+use Rattle.ssa_model.proofs.FiledBench.{spelled-in, read-history, filed-valid, filed-told, first-valid, applied-valid, states_file_is_met}
 use Rattle.ssa_model.proofs.Basics.{le-of}
 
-values-spelled : All (IsSpelled (readings_of (recorded_values filed))) (recorded_values filed)
-values-spelled =
-    let readings = readings_of (recorded_values filed) in
-    let head = record_head 0 1 in
+abbrev shown : Json
+shown = whole_object filed filed.timeline.first
+
+abbrev onward : Json
+onward = record_line filed applied_step.label filed.timeline.first applied_step.state
+
+-- the values are spelled where the texts of the first ones are apart from those behind them
+spelled-by : (f : Format)
+    → list_any (λ w. same_text (compact w) (compact filed.schema.source)) (record_head f 0 1 ∷ []) ≡ false
+    → list_any (λ w. same_text (compact w) (compact shown)) (record_head f 0 1 ∷ filed.schema.source ∷ []) ≡ false
+    → list_any (λ w. same_text (compact w) (compact onward)) (record_head f 0 1 ∷ filed.schema.source ∷ shown ∷ []) ≡ false
+    → All (IsSpelled (readings_of (recorded_values f filed))) (recorded_values f filed)
+spelled-by f second third fourth =
+    let readings = readings_of (recorded_values f filed) in
+    let head = record_head f 0 1 in
     let source = filed.schema.source in
-    let now = whole_object filed filed.timeline.first in
-    let last = record_line filed applied_step.label filed.timeline.first applied_step.state in
-    All-cons (IsSpelled readings) head (source ∷ now ∷ last ∷ []) (spelled-in [] head (source ∷ now ∷ last ∷ []) refl)
-    (All-cons (IsSpelled readings) source (now ∷ last ∷ []) (spelled-in (head ∷ []) source (now ∷ last ∷ []) refl)
-    (All-cons (IsSpelled readings) now (last ∷ []) (spelled-in (head ∷ source ∷ []) now (last ∷ []) refl)
-    (All-cons (IsSpelled readings) last [] (spelled-in (head ∷ source ∷ now ∷ []) last [] refl) (All-nil (IsSpelled readings)))))
+    All-cons (IsSpelled readings) head (source ∷ shown ∷ onward ∷ []) (spelled-in [] head (source ∷ shown ∷ onward ∷ []) refl)
+    (All-cons (IsSpelled readings) source (shown ∷ onward ∷ []) (spelled-in (head ∷ []) source (shown ∷ onward ∷ []) second)
+    (All-cons (IsSpelled readings) shown (onward ∷ []) (spelled-in (head ∷ source ∷ []) shown (onward ∷ []) third)
+    (All-cons (IsSpelled readings) onward [] (spelled-in (head ∷ source ∷ shown ∷ []) onward [] fourth) (All-nil (IsSpelled readings)))))
 
--- the sample's bench has a bench file of records
-records_file_is_met : IsFile (readings_of (recorded_values filed)) records (recorded_text filed) filed
-records_file_is_met = record {
-  valid = filed-valid (recorded_values filed);
-  paths = read-history (recorded_values filed);
-  text = refl;
-  fits = le-of (length (recorded_text filed)) most_bench_bytes refl;
-  spelled = values-spelled;
-}
-
--- and one in each format
+-- the sample's bench has a bench file in each format
 pub files_are_met : FilesAreMet
 files_are_met states = states_file_is_met
-files_are_met records = records_file_is_met
+files_are_met records = record {
+  valid = filed-valid (recorded_values records filed);
+  paths = read-history (recorded_values records filed);
+  tells = filed-told records;
+  text = refl;
+  fits = le-of (length (recorded_text records filed)) most_bench_bytes refl;
+  spelled = spelled-by records refl refl refl;
+}
+files_are_met parts = record {
+  valid = filed-valid (recorded_values parts filed);
+  paths = read-history (recorded_values parts filed);
+  tells = filed-told parts;
+  text = refl;
+  fits = le-of (length (recorded_text parts filed)) most_bench_bytes refl;
+  spelled = spelled-by parts refl refl refl;
+}
 
 -- ---- one line
 
-read-back : (s : State) → IsValidState sample_kind s → HasReadPaths (readings_of (recorded_values filed)) s.body
-    → AllEntries (IsReadBack (readings_of (recorded_values filed))) s.table → IsReadBackState (readings_of (recorded_values filed)) sample_kind s
+read-back : (s : State) → IsValidState sample_kind s → HasReadPaths (readings_of (recorded_values parts filed)) s.body
+    → AllEntries (IsReadBack (readings_of (recorded_values parts filed))) s.table → IsReadBackState (readings_of (recorded_values parts filed)) sample_kind s
 read-back s valid paths table = record { valid = valid; paths = paths; table = table }
 
 -- the states of the sample's line, the line and two damaged values meet what the laws of one line ask
 pub recorded_moves_are_met : RecordedMovesAreMet
 recorded_moves_are_met =
-    let good = filed-valid (recorded_values filed) in
-    let readings = readings_of (recorded_values filed) in (
+    let good = filed-valid (recorded_values parts filed) in
+    let readings = readings_of (recorded_values parts filed) in (
       record { accepted = good.accepted; named = good.named },
-      read-back filed.timeline.first first-valid (read-history (recorded_values filed)).first good.first,
-      read-back applied_step.state applied-valid (All-head (HasReadStep readings) applied_step [] (read-history (recorded_values filed)).later)
+      read-back filed.timeline.first first-valid (read-history (recorded_values parts filed)).first good.first,
+      read-back applied_step.state applied-valid (All-head (HasReadStep readings) applied_step [] (read-history (recorded_values parts filed)).later)
           (All-head (IsStep readings) applied_step [] good.steps).table,
       (All-head (IsStep readings) applied_step [] good.steps).label,
       good.order.0,

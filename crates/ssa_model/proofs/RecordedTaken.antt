@@ -1,9 +1,10 @@
 -- From the lines that are written of a valid bench, by records, the bench is taken, and from its file.
-use Rattle.std.proofs.Common.{◌≡◌, ◌≤◌, ℕ, zero, suc, ◌+◌, ◌-◌, length, List, [], ◌∷◌, ◌++◌, take, drop, true, Option, Some, None, option_map, option_and_then, refl, sym, ap, ◌∙◌, subst, arith, append_assoc, append-nil, length-append, length-drop}
+use Rattle.std.proofs.Common.{◌≡◌, ◌≤◌, ℕ, zero, suc, ◌+◌, ◌-◌, length, List, [], ◌∷◌, ◌++◌, take, drop, true, ◌&&◌, Option, Some, None, option_map, option_and_then, refl, sym, ap, ◌∙◌, subst, arith, append_assoc, append-nil, length-append, length-drop}
 use Rattle.std.proofs.Math.Seq.{take-append_seam, drop-append_seam}
 use Rattle.std.proofs.lemmas.Bool.{and_from}
 use Rattle.std.proofs.lemmas.List.{take-append-drop, length-take-le}
 use Rattle.std.proofs.lemmas.List.Elements.{All-head, All-tail}
+use Rattle.std.proofs.lemmas.Option.{none-some}
 use Rattle.std.specs.List.{All}
 use Rattle.std.specs.Prelude.{if◌then◌else◌, ◌==◌, nat_le, Result, Ok, Err}
 use Rattle.ssa_model.specs.definitions.Limits.{most_past, most_bench_bytes}
@@ -11,23 +12,25 @@ use Rattle.ssa_model.specs.definitions.Json.{Text, Json}
 use Rattle.ssa_model.specs.definitions.Readings.{Readings}
 use Rattle.ssa_model.specs.definitions.Schema.{Schema}
 use Rattle.ssa_model.specs.definitions.Operations.{State}
-use Rattle.ssa_model.specs.definitions.History.{Step, Bench, last_state, present, with_timeline}
+use Rattle.ssa_model.specs.definitions.History.{Label, Step, Bench, last_state, present, with_timeline}
 use Rattle.ssa_model.specs.definitions.Answers.{Fault, lone_bench, bench_of}
-use Rattle.ssa_model.specs.definitions.BenchText.{whole_object}
+use Rattle.ssa_model.specs.definitions.BenchText.{Format, states, records, parts, whole_object}
 use Rattle.ssa_model.specs.definitions.Valid.{MakesValid, KeepsOrder, KeepsOrders}
 use Rattle.ssa_model.specs.definitions.BenchFile.{IsLabel, IsStep, IsSpelled, IsValidBench}
 use Rattle.ssa_model.specs.definitions.RecordedBench.{record_head, record_line, past_lines, future_lines, past_steps, future_steps, recorded_values, recorded_text, HasReadStep, HasReadHistory}
+use Rattle.ssa_model.specs.definitions.Formats.{can_tell_state, can_tell_line, CanTellStep, CanTell}
 use Rattle.ssa_model.specs.laws.BenchFiles.{text_lines, spelled_values, given_if, is_written_as, schema_in}
 use Rattle.ssa_model.specs.laws.RecordedMoves.{IsReadBackState, TellsLines}
-use Rattle.ssa_model.specs.laws.RecordedBenches.{Counts, counts_in, present_in, past_in, future_in, with_moves, lines_bench, recorded_bench, recorded_bench_in, RecordedFilesAreTaken}
+use Rattle.ssa_model.specs.laws.RecordedBenches.{Counts, IsOfRecords, counts_in, present_in, move_in, told_move, past_in, future_in, with_moves, lines_bench, recorded_bench, recorded_bench_in, RecordedFilesAreTaken}
 use Rattle.ssa_model.proofs.RecordedMoves.{move-back}
+use Rattle.ssa_model.proofs.ToldParts.{told-line}
 use Rattle.ssa_model.proofs.SpelledValues.{text_lines-of, spelled_values-of}
 use Rattle.ssa_model.proofs.TakenOfWritten.{written-itself, schema-back, nat-itself, shown-back}
 use Rattle.ssa_model.proofs.Basics.{nat_le-of}
 
 -- ---- the moves of a bench
 
-module _ (readings : Readings) (bench : Bench) (valid : IsValidBench readings bench) where
+module _ (readings : Readings) (f : Format) (bench : Bench) (valid : IsValidBench readings bench) where
   abbrev IsGoodState : State → Type 0
   IsGoodState = IsReadBackState readings bench.schema.kind
 
@@ -41,22 +44,27 @@ module _ (readings : Readings) (bench : Bench) (valid : IsValidBench readings be
     pub label : IsLabel readings s.label
     -- the managers that the two states share stand in one order
     pub order : KeepsOrder v.table s.state.table
+    -- the format can tell the managers of the state before
+    pub from_tells : can_tell_state f v ≡ true
+    -- and the step
+    pub tells : CanTellStep f s
 
   abbrev AreGoodMoves : State → List Step → Type 0
   AreGoodMoves v [] = Unit {0}
   AreGoodMoves v (s ∷ ss) = IsGoodMove v s × AreGoodMoves s.state ss
 
   good-moves : (v : State) (ss : List Step) → IsGoodState v → All (MakesValid bench.schema.kind) ss → All (IsStep readings) ss → All (HasReadStep readings) ss
-      → KeepsOrders v ss → AreGoodMoves v ss
-  good-moves v [] good valids steps paths order = tt
-  good-moves v (s ∷ ss) good valids steps paths order =
+      → KeepsOrders v ss → can_tell_state f v ≡ true → All (CanTellStep f) ss → AreGoodMoves v ss
+  good-moves v [] good valids steps paths order told tells = tt
+  good-moves v (s ∷ ss) good valids steps paths order told tells =
       let step = All-head (IsStep readings) s ss steps in
       let valid_next = All-head (MakesValid bench.schema.kind) s ss valids in
       let read_next = All-head (HasReadStep readings) s ss paths in
-      let next : IsGoodState s.state = record { valid = valid_next; paths = read_next; table = step.table } in (
-        record { from = good; to = next; label = step.label; order = order.0 },
+      let next : IsGoodState s.state = record { valid = valid_next; paths = read_next; table = step.table } in
+      let own = All-head (CanTellStep f) s ss tells in (
+        record { from = good; to = next; label = step.label; order = order.0; from_tells = told; tells = own },
         good-moves s.state ss next (All-tail (MakesValid bench.schema.kind) s ss valids) (All-tail (IsStep readings) s ss steps)
-            (All-tail (HasReadStep readings) s ss paths) order.1,
+            (All-tail (HasReadStep readings) s ss paths) order.1 own.1 (All-tail (CanTellStep f) s ss tells),
       )
 
   good-take : (n : ℕ) (v : State) (ss : List Step) → AreGoodMoves v ss → AreGoodMoves v (take n ss)
@@ -74,26 +82,35 @@ module _ (readings : Readings) (bench : Bench) (valid : IsValidBench readings be
   good-last (suc n) v [] good h = good
   good-last (suc n) v (s ∷ ss) good h = good-last n s.state ss h.0.to h.1
 
-  tells : TellsLines bench
-  tells = record { accepted = valid.accepted; named = valid.named }
+  lines_told : TellsLines bench
+  lines_told = record { accepted = valid.accepted; named = valid.named }
 
   -- ---- the lines
 
+  -- a line of which the format can tell is taken as its move
+  told-back : (label : Label) (v w : State) → IsLabel readings label → IsGoodState v → IsGoodState w → KeepsOrder v.table w.table
+      → can_tell_line f (record_line bench label v w) ≡ true → told_move readings f bench v (record_line bench label v w) ≡ Some (label, w)
+  told-back label v w h a b order told =
+      let j = record_line bench label v w in
+      ap (λ t. if t then move_in readings bench v j else None) told ∙ move-back readings bench lines_told label v w h a b order
+
   past-back : (v : State) (ss : List Step) (rest : List Json) (acc : List Step) → AreGoodMoves v ss
-      → past_in readings bench (last_state v ss) (past_lines bench v ss ++ rest) acc ≡ past_in readings bench v rest (ss ++ acc)
+      → past_in readings f bench (last_state v ss) (past_lines bench v ss ++ rest) acc ≡ past_in readings f bench v rest (ss ++ acc)
   past-back v [] rest acc h = refl
   past-back v (s ∷ ss) rest acc h =
       let j = record_line bench s.label s.state v in
-      ap (λ js. past_in readings bench (last_state s.state ss) js acc) (append_assoc (past_lines bench s.state ss) (j ∷ []) rest)
+      ap (λ js. past_in readings f bench (last_state s.state ss) js acc) (append_assoc (past_lines bench s.state ss) (j ∷ []) rest)
       ∙ past-back s.state ss (j ∷ rest) acc h.1
-      ∙ ap (option_and_then (λ m. past_in readings bench m.1 rest (record { label = m.0; state = s.state } ∷ (ss ++ acc))))
-      (move-back readings bench tells s.label s.state v h.0.label h.0.to h.0.from (sym h.0.order))
+      ∙ ap (option_and_then (λ m. past_in readings f bench m.1 rest (record { label = m.0; state = s.state } ∷ (ss ++ acc))))
+      (told-back s.label s.state v h.0.label h.0.to h.0.from (sym h.0.order)
+      (told-line f bench s.label s.state v h.0.tells.0 h.0.tells.1 h.0.from_tells))
 
-  future-back : (v : State) (ss : List Step) → AreGoodMoves v ss → future_in readings bench v (future_lines bench v ss) ≡ Some ss
+  future-back : (v : State) (ss : List Step) → AreGoodMoves v ss → future_in readings f bench v (future_lines bench v ss) ≡ Some ss
   future-back v [] h = refl
   future-back v (s ∷ ss) h =
-      ap (option_and_then (λ m. option_map (λ ts. record { label = m.0; state = m.1 } ∷ ts) (future_in readings bench m.1 (future_lines bench s.state ss))))
-      (move-back readings bench tells s.label v s.state h.0.label h.0.from h.0.to h.0.order)
+      ap (option_and_then (λ m. option_map (λ ts. record { label = m.0; state = m.1 } ∷ ts) (future_in readings f bench m.1 (future_lines bench s.state ss))))
+      (told-back s.label v s.state h.0.label h.0.from h.0.to h.0.order
+      (told-line f bench s.label v s.state h.0.tells.0 h.0.from_tells h.0.tells.1))
       ∙ ap (option_map (λ ts. s ∷ ts)) (future-back s.state ss h.1)
 
 -- back along some steps there are as many lines as steps
@@ -111,20 +128,29 @@ future-many bench v (s ∷ ss) = let rest = future-many bench s.state ss in omeg
 
 -- ---- the bench
 
-counts-back : (past future : ℕ) → past + future ≤ most_past → counts_in (record_head past future) ≡ Some (record { past = past; future = future })
-counts-back past future few =
-    let head = record_head past future in
-    ap (λ b. given_if {X = Counts} b (record { past = past; future = future }))
+counts-back : (f : Format) (past future : ℕ) → IsOfRecords f → past + future ≤ most_past
+    → counts_in (record_head f past future) ≡ Some (record { format = f; past = past; future = future })
+counts-back f past future known few =
+    let head = record_head f past future in
+    ap (option_and_then (λ g. given_if {X = Counts} (is_written_as (record_head g past future) head && nat_le (past + future) most_past)
+    (record { format = g; past = past; future = future }))) known
+    ∙ ap (λ b. given_if {X = Counts} b (record { format = f; past = past; future = future }))
     (and_from (is_written_as head head) (nat_le (past + future) most_past) (written-itself head) (nat_le-of (past + future) most_past few))
 
-present-by : (v : Json) (r : Result Bench Fault) (now : Bench)
-    → r ≡ Ok now → whole_object now now.timeline.first ≡ v
-    → elim r [ Ok bench ↦ given_if (is_written_as (whole_object bench bench.timeline.first) v) bench | Err f ↦ None ] ≡ Some now
-present-by v r now is same =
-    ap (λ (r : Result Bench Fault). elim r [ Ok bench ↦ given_if (is_written_as (whole_object bench bench.timeline.first) v) bench | Err f ↦ None ]) is
-    ∙ ap (λ b. given_if b now) (ap (is_written_as (whole_object now now.timeline.first)) (sym same) ∙ written-itself (whole_object now now.timeline.first))
+present-by : (v : Json) (f : Format) (r : Result Bench Fault) (now : Bench)
+    → r ≡ Ok now → whole_object now now.timeline.first ≡ v → can_tell_state f now.timeline.first ≡ true
+    → elim r
+    [ Ok bench ↦ given_if (is_written_as (whole_object bench bench.timeline.first) v && can_tell_state f bench.timeline.first) bench | Err e ↦ None ] ≡ Some now
+present-by v f r now is same tells =
+    let own = whole_object now now.timeline.first in
+    ap
+    (λ (r : Result Bench Fault). elim r
+    [ Ok bench ↦ given_if (is_written_as (whole_object bench bench.timeline.first) v && can_tell_state f bench.timeline.first) bench | Err e ↦ None ]) is
+    ∙ ap (λ b. given_if b now)
+    (and_from (is_written_as own v) (can_tell_state f now.timeline.first) (ap (is_written_as own) (sym same) ∙ written-itself own) tells)
 
-module _ (readings : Readings) (bench : Bench) (valid : IsValidBench readings bench) (read : HasReadHistory readings bench.timeline) where
+module _ (readings : Readings) (f : Format) (known : IsOfRecords f) (bench : Bench) (valid : IsValidBench readings bench)
+    (read : HasReadHistory readings bench.timeline) (tells : CanTell f bench.timeline) where
   abbrev first : State
   first = bench.timeline.first
 
@@ -147,34 +173,44 @@ module _ (readings : Readings) (bench : Bench) (valid : IsValidBench readings be
   on_lines = future_lines bench v behind
 
   abbrev counts : Counts
-  counts = record { past = bench.timeline.place; future = length bench.timeline.later - bench.timeline.place }
+  counts = record { format = f; past = bench.timeline.place; future = length bench.timeline.later - bench.timeline.place }
 
-  good-first : IsGoodState readings bench valid first
+  good-first : IsGoodState readings f bench valid first
   good-first = record { valid = valid.states.first; paths = read.first; table = valid.first }
 
-  good-all : AreGoodMoves readings bench valid first bench.timeline.later
-  good-all = good-moves readings bench valid first bench.timeline.later good-first valid.states.later valid.steps read.later valid.order
+  good-all : AreGoodMoves readings f bench valid first bench.timeline.later
+  good-all =
+      good-moves readings f bench valid first bench.timeline.later good-first valid.states.later valid.steps read.later valid.order tells.first tells.later
 
-  present-back : present_in readings bench.schema (whole_object bench v) ≡ Some now
+  -- the format can tell the managers of the present state
+  told-present : can_tell_state f v ≡ true
+  told-present = told-last bench.timeline.place first bench.timeline.later tells.first tells.later
+    where
+      told-last : (n : ℕ) (w : State) (ss : List Step) → can_tell_state f w ≡ true → All (CanTellStep f) ss → can_tell_state f (last_state w (take n ss)) ≡ true
+      told-last zero w ss h all = h
+      told-last (suc n) w [] h all = h
+      told-last (suc n) w (s ∷ ss) h all = told-last n s.state ss (All-head (CanTellStep f) s ss all).1 (All-tail (CanTellStep f) s ss all)
+
+  present-back : present_in readings f bench.schema (whole_object bench v) ≡ Some now
   present-back =
-      let good = good-last readings bench valid bench.timeline.place first bench.timeline.later good-first good-all in
-      present-by (whole_object bench v) (bench_of readings bench.schema (whole_object bench v)) now
-      (shown-back readings bench valid.named valid.accepted v good.valid good.table) refl
+      let good = good-last readings f bench valid bench.timeline.place first bench.timeline.later good-first good-all in
+      present-by (whole_object bench v) f (bench_of readings bench.schema (whole_object bench v)) now
+      (shown-back readings bench valid.named valid.accepted v good.valid good.table) refl told-present
 
   place-many : length back_lines ≡ bench.timeline.place
   place-many = past-many bench first before ∙ length-take-le bench.timeline.place bench.timeline.later valid.place
 
-  past-is : past_in readings now v (take bench.timeline.place (back_lines ++ on_lines)) [] ≡ Some (first, before)
+  past-is : past_in readings f now v (take bench.timeline.place (back_lines ++ on_lines)) [] ≡ Some (first, before)
   past-is =
-      ap (λ js. past_in readings now v js [])
+      ap (λ js. past_in readings f now v js [])
       (ap (λ n. take n (back_lines ++ on_lines)) (sym place-many) ∙ take-append_seam back_lines on_lines ∙ sym (append-nil back_lines))
-      ∙ past-back readings bench valid first before [] [] (good-take readings bench valid bench.timeline.place first bench.timeline.later good-all)
+      ∙ past-back readings f bench valid first before [] [] (good-take readings f bench valid bench.timeline.place first bench.timeline.later good-all)
       ∙ ap (λ ss. Some (first, ss)) (append-nil before)
 
-  future-is : future_in readings now v (drop bench.timeline.place (back_lines ++ on_lines)) ≡ Some behind
+  future-is : future_in readings f now v (drop bench.timeline.place (back_lines ++ on_lines)) ≡ Some behind
   future-is =
-      ap (future_in readings now v) (ap (λ n. drop n (back_lines ++ on_lines)) (sym place-many) ∙ drop-append_seam back_lines on_lines)
-      ∙ future-back readings bench valid v behind (good-drop readings bench valid bench.timeline.place first bench.timeline.later good-all)
+      ap (future_in readings f now v) (ap (λ n. drop n (back_lines ++ on_lines)) (sym place-many) ∙ drop-append_seam back_lines on_lines)
+      ∙ future-back readings f bench valid v behind (good-drop readings f bench valid bench.timeline.place first bench.timeline.later good-all)
 
   moves-are : with_moves counts now (back_lines ++ on_lines) (first, before) behind ≡ Some bench
   moves-are =
@@ -198,30 +234,30 @@ module _ (readings : Readings) (bench : Bench) (valid : IsValidBench readings be
 
   lines-back : lines_bench readings counts now js ≡ Some bench
   lines-back =
-      ap (option_and_then (λ past. option_and_then (with_moves counts now js past) (future_in readings now v (drop bench.timeline.place js)))) past-is
+      ap (option_and_then (λ past. option_and_then (with_moves counts now js past) (future_in readings f now v (drop bench.timeline.place js)))) past-is
       ∙ ap (option_and_then (with_moves counts now js (first, before))) future-is
       ∙ moves-are
 
   -- from the values that are written of the bench it is taken
-  pub recorded-back : recorded_bench readings (recorded_values bench) ≡ Some bench
+  pub recorded-back : recorded_bench readings (recorded_values f bench) ≡ Some bench
   recorded-back =
-      ap (option_and_then of_counts) (counts-back bench.timeline.place (length bench.timeline.later - bench.timeline.place) few)
+      ap (option_and_then of_counts) (counts-back f bench.timeline.place (length bench.timeline.later - bench.timeline.place) known few)
       ∙ ap (option_and_then (of_schema counts)) (schema-back bench.schema valid.read)
       ∙ ap (option_and_then (λ b. lines_bench readings counts b js)) present-back
       ∙ lines-back
     where
       of_schema : Counts → Schema → Option Bench
-      of_schema c schema = option_and_then (λ b. lines_bench readings c b js) (present_in readings schema (whole_object bench v))
+      of_schema c schema = option_and_then (λ b. lines_bench readings c b js) (present_in readings c.format schema (whole_object bench v))
 
       of_counts : Counts → Option Bench
       of_counts c = option_and_then (of_schema c) (schema_in bench.schema.source)
 
-  recorded-text-back : length (recorded_text bench) ≤ most_bench_bytes → All (IsSpelled readings) (recorded_values bench)
-      → recorded_bench_in readings (recorded_text bench) ≡ Some bench
+  recorded-text-back : length (recorded_text f bench) ≤ most_bench_bytes → All (IsSpelled readings) (recorded_values f bench)
+      → recorded_bench_in readings (recorded_text f bench) ≡ Some bench
   recorded-text-back h spelled =
-      ap (λ b. if b then of_lines (text_lines (recorded_text bench)) else None) (nat_le-of (length (recorded_text bench)) most_bench_bytes h)
-      ∙ ap of_lines (text_lines-of (recorded_values bench))
-      ∙ ap (option_and_then (recorded_bench readings)) (spelled_values-of readings (recorded_values bench) spelled)
+      ap (λ b. if b then of_lines (text_lines (recorded_text f bench)) else None) (nat_le-of (length (recorded_text f bench)) most_bench_bytes h)
+      ∙ ap of_lines (text_lines-of (recorded_values f bench))
+      ∙ ap (option_and_then (recorded_bench readings)) (spelled_values-of readings (recorded_values f bench) spelled)
       ∙ recorded-back
     where
       of_lines : Option (List Text) → Option Bench
@@ -229,6 +265,10 @@ module _ (readings : Readings) (bench : Bench) (valid : IsValidBench readings be
 
 -- the law
 pub recorded_files_are_taken : RecordedFilesAreTaken
-recorded_files_are_taken readings t bench file =
+recorded_files_are_taken readings states t bench known file = absurd (none-some states known)
+recorded_files_are_taken readings records t bench known file =
     ap (recorded_bench_in readings) file.text
-    ∙ recorded-text-back readings bench file.valid file.paths (subst (λ x. length x ≤ most_bench_bytes) file.text file.fits) file.spelled
+    ∙ recorded-text-back readings records known bench file.valid file.paths file.tells (subst (λ x. length x ≤ most_bench_bytes) file.text file.fits) file.spelled
+recorded_files_are_taken readings parts t bench known file =
+    ap (recorded_bench_in readings) file.text
+    ∙ recorded-text-back readings parts known bench file.valid file.paths file.tells (subst (λ x. length x ≤ most_bench_bytes) file.text file.fits) file.spelled

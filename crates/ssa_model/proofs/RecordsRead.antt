@@ -12,8 +12,9 @@ use Rattle.ssa_model.specs.definitions.Operations.{State}
 use Rattle.ssa_model.specs.definitions.Readings.{Readings}
 use Rattle.ssa_model.specs.definitions.Schema.{Schema}
 use Rattle.ssa_model.specs.definitions.History.{Label, Step, Timeline, Bench, appended, last_state, moved_to, present, with_timeline}
+use Rattle.ssa_model.specs.definitions.BenchText.{Format}
 use Rattle.ssa_model.specs.laws.BenchFiles.{given_if, schema_in, spelled_value, values_of}
-use Rattle.ssa_model.specs.laws.RecordedBenches.{Counts, counts_in, present_in, move_in, past_in, future_in, with_moves, lines_bench, recorded_bench, recorded_bench_in, MoveFault, no_move_text, lines_fault, moves_fault, opening_in, texts_fault, recorded_fault}
+use Rattle.ssa_model.specs.laws.RecordedBenches.{Counts, counts_in, present_in, told_move, past_in, future_in, with_moves, lines_bench, recorded_bench, recorded_bench_in, MoveFault, no_move_text, lines_fault, moves_fault, opening_in, texts_fault, recorded_fault}
 use Rattle.ssa_model.specs.laws.LineByLine.{Next, at_end, no_value, value_then, next_value, preceded, at_last, along, ended_with, at_place, on_from, moves_from, with_part}
 use Rattle.ssa_model.proofs.AlongLines.{moves_in, all_moved, IsPlaced, Lands, went, reaches, fault-along, same-fault, part_of, part-went, part-reaches, part-fault, PartFails, FailsBehind}
 use Rattle.ssa_model.proofs.Given.{and_then-back, given-back, map-back, tested-back}
@@ -49,40 +50,40 @@ is-back v acc (m ∷ ms) =
     let many = rest.many in
     record { place = rest.place; many = omega (arith, many); last = rest.last }
 
-past-moved : (readings : Readings) (now : Bench) (v : State) (js : List Json) (acc : List Step) (ms : List (Label × State))
-    → moves_in readings now v js ≡ Some ms
-    → past_in readings now v js acc ≡ Some ((all_moved preceded (standing_after 0 v acc) ms).first, (all_moved preceded (standing_after 0 v acc) ms).later)
-past-moved readings now v [] acc ms is =
+past-moved : (readings : Readings) (f : Format) (now : Bench) (v : State) (js : List Json) (acc : List Step) (ms : List (Label × State))
+    → moves_in readings f now v js ≡ Some ms
+    → past_in readings f now v js acc ≡ Some ((all_moved preceded (standing_after 0 v acc) ms).first, (all_moved preceded (standing_after 0 v acc) ms).later)
+past-moved readings f now v [] acc ms is =
     ap (λ ns. Some ((all_moved preceded (standing_after 0 v acc) ns).first, (all_moved preceded (standing_after 0 v acc) ns).later)) (same_Some [] ms is)
-past-moved readings now v (j ∷ js) acc ms is =
-    let first = and_then-back (λ m. option_map (λ ns. m ∷ ns) (moves_in readings now m.1 js)) (move_in readings now v j) ms is in
+past-moved readings f now v (j ∷ js) acc ms is =
+    let first = and_then-back (λ m. option_map (λ ns. m ∷ ns) (moves_in readings f now m.1 js)) (told_move readings f now v j) ms is in
     let m = first.0 in
-    let later = map-back (λ ns. m ∷ ns) (moves_in readings now m.1 js) ms first.2 in
-    ap (option_and_then (λ m. past_in readings now m.1 js (record { label = m.0; state = v } ∷ acc))) first.1
-    ∙ past-moved readings now m.1 js (record { label = m.0; state = v } ∷ acc) later.0 later.1
+    let later = map-back (λ ns. m ∷ ns) (moves_in readings f now m.1 js) ms first.2 in
+    ap (option_and_then (λ m. past_in readings f now m.1 js (record { label = m.0; state = v } ∷ acc))) first.1
+    ∙ past-moved readings f now m.1 js (record { label = m.0; state = v } ∷ acc) later.0 later.1
     ∙ ap (λ ns. Some ((all_moved preceded (standing_after 0 v acc) ns).first, (all_moved preceded (standing_after 0 v acc) ns).later)) later.2
 
-moves-of-past : (readings : Readings) (now : Bench) (v : State) (js : List Json) (acc : List Step) (r : State × List Step)
-    → past_in readings now v js acc ≡ Some r
-    → (ms : List (Label × State)) × (moves_in readings now v js ≡ Some ms) × (length ms ≡ length js)
-moves-of-past readings now v [] acc r is = ([], refl, refl)
-moves-of-past readings now v (j ∷ js) acc r is =
-    let first = and_then-back (λ m. past_in readings now m.1 js (record { label = m.0; state = v } ∷ acc)) (move_in readings now v j) r is in
+moves-of-past : (readings : Readings) (f : Format) (now : Bench) (v : State) (js : List Json) (acc : List Step) (r : State × List Step)
+    → past_in readings f now v js acc ≡ Some r
+    → (ms : List (Label × State)) × (moves_in readings f now v js ≡ Some ms) × (length ms ≡ length js)
+moves-of-past readings f now v [] acc r is = ([], refl, refl)
+moves-of-past readings f now v (j ∷ js) acc r is =
+    let first = and_then-back (λ m. past_in readings f now m.1 js (record { label = m.0; state = v } ∷ acc)) (told_move readings f now v j) r is in
     let m = first.0 in
-    let rest = moves-of-past readings now m.1 js (record { label = m.0; state = v } ∷ acc) r first.2 in (
+    let rest = moves-of-past readings f now m.1 js (record { label = m.0; state = v } ∷ acc) r first.2 in (
       m ∷ rest.0,
-      ap (option_and_then (λ m. option_map (λ ns. m ∷ ns) (moves_in readings now m.1 js))) first.1 ∙ ap (option_map (λ ns. m ∷ ns)) rest.1,
+      ap (option_and_then (λ m. option_map (λ ns. m ∷ ns) (moves_in readings f now m.1 js))) first.1 ∙ ap (option_map (λ ns. m ∷ ns)) rest.1,
       ap suc rest.2,
     )
 
-moves-many : (readings : Readings) (now : Bench) (v : State) (js : List Json) (ms : List (Label × State)) → moves_in readings now v js ≡ Some ms
+moves-many : (readings : Readings) (f : Format) (now : Bench) (v : State) (js : List Json) (ms : List (Label × State)) → moves_in readings f now v js ≡ Some ms
     → length ms ≡ length js
-moves-many readings now v [] ms is = sym (ap length (same_Some [] ms is))
-moves-many readings now v (j ∷ js) ms is =
-    let first = and_then-back (λ m. option_map (λ ns. m ∷ ns) (moves_in readings now m.1 js)) (move_in readings now v j) ms is in
+moves-many readings f now v [] ms is = sym (ap length (same_Some [] ms is))
+moves-many readings f now v (j ∷ js) ms is =
+    let first = and_then-back (λ m. option_map (λ ns. m ∷ ns) (moves_in readings f now m.1 js)) (told_move readings f now v j) ms is in
     let m = first.0 in
-    let later = map-back (λ ns. m ∷ ns) (moves_in readings now m.1 js) ms first.2 in
-    sym (ap length later.2) ∙ ap suc (moves-many readings now m.1 js later.0 later.1)
+    let later = map-back (λ ns. m ∷ ns) (moves_in readings f now m.1 js) ms first.2 in
+    sym (ap length later.2) ∙ ap suc (moves-many readings f now m.1 js later.0 later.1)
 
 -- ---- on along moves
 
@@ -116,28 +117,28 @@ on-moved v ls (m ∷ ms) =
     ap (λ t. all_moved appended t ms) (appended-last v ls m.0 m.1) ∙ on-moved v (ls ++ step_of m ∷ []) ms
     ∙ ap (to_last v) (append_assoc ls (step_of m ∷ []) (map step_of ms))
 
-future-moved : (readings : Readings) (now : Bench) (v : State) (js : List Json) (ms : List (Label × State)) → moves_in readings now v js ≡ Some ms
-    → future_in readings now v js ≡ Some (map step_of ms)
-future-moved readings now v [] ms is = ap (λ ns. Some (map step_of ns)) (same_Some [] ms is)
-future-moved readings now v (j ∷ js) ms is =
-    let first = and_then-back (λ m. option_map (λ ns. m ∷ ns) (moves_in readings now m.1 js)) (move_in readings now v j) ms is in
+future-moved : (readings : Readings) (f : Format) (now : Bench) (v : State) (js : List Json) (ms : List (Label × State)) → moves_in readings f now v js ≡ Some ms
+    → future_in readings f now v js ≡ Some (map step_of ms)
+future-moved readings f now v [] ms is = ap (λ ns. Some (map step_of ns)) (same_Some [] ms is)
+future-moved readings f now v (j ∷ js) ms is =
+    let first = and_then-back (λ m. option_map (λ ns. m ∷ ns) (moves_in readings f now m.1 js)) (told_move readings f now v j) ms is in
     let m = first.0 in
-    let later = map-back (λ ns. m ∷ ns) (moves_in readings now m.1 js) ms first.2 in
-    ap (option_and_then (λ m. option_map (λ ss. record { label = m.0; state = m.1 } ∷ ss) (future_in readings now m.1 js))) first.1
-    ∙ ap (option_map (λ ss. step_of m ∷ ss)) (future-moved readings now m.1 js later.0 later.1)
+    let later = map-back (λ ns. m ∷ ns) (moves_in readings f now m.1 js) ms first.2 in
+    ap (option_and_then (λ m. option_map (λ ss. record { label = m.0; state = m.1 } ∷ ss) (future_in readings f now m.1 js))) first.1
+    ∙ ap (option_map (λ ss. step_of m ∷ ss)) (future-moved readings f now m.1 js later.0 later.1)
     ∙ ap (λ ns. Some (map step_of ns)) later.2
 
-moves-of-future : (readings : Readings) (now : Bench) (v : State) (js : List Json) (ss : List Step) → future_in readings now v js ≡ Some ss
-    → (ms : List (Label × State)) × (moves_in readings now v js ≡ Some ms)
-moves-of-future readings now v [] ss is = ([], refl)
-moves-of-future readings now v (j ∷ js) ss is =
-    let first = and_then-back (λ m. option_map (λ xs. record { label = m.0; state = m.1 } ∷ xs) (future_in readings now m.1 js)) (move_in readings now v j) ss
+moves-of-future : (readings : Readings) (f : Format) (now : Bench) (v : State) (js : List Json) (ss : List Step) → future_in readings f now v js ≡ Some ss
+    → (ms : List (Label × State)) × (moves_in readings f now v js ≡ Some ms)
+moves-of-future readings f now v [] ss is = ([], refl)
+moves-of-future readings f now v (j ∷ js) ss is =
+    let first = and_then-back (λ m. option_map (λ xs. record { label = m.0; state = m.1 } ∷ xs) (future_in readings f now m.1 js)) (told_move readings f now v j) ss
     is in
     let m = first.0 in
-    let later = map-back (λ xs. step_of m ∷ xs) (future_in readings now m.1 js) ss first.2 in
-    let rest = moves-of-future readings now m.1 js later.0 later.1 in (
+    let later = map-back (λ xs. step_of m ∷ xs) (future_in readings f now m.1 js) ss first.2 in
+    let rest = moves-of-future readings f now m.1 js later.0 later.1 in (
       m ∷ rest.0,
-      ap (option_and_then (λ m. option_map (λ ns. m ∷ ns) (moves_in readings now m.1 js))) first.1 ∙ ap (option_map (λ ns. m ∷ ns)) rest.1,
+      ap (option_and_then (λ m. option_map (λ ns. m ∷ ns) (moves_in readings f now m.1 js))) first.1 ∙ ap (option_map (λ ns. m ∷ ns)) rest.1,
     )
 
 take-none : {X : Type 0} (n : ℕ) → take {A = X} n [] ≡ []
@@ -199,9 +200,15 @@ module _ (readings : Readings) (now : Bench) (alone : now.timeline ≡ standing_
   abbrev last_read : ℕ → Bench → List ℕ → ℕ → Result Bench MoveFault
   last_read past last = ended_with readings (at_place past last)
 
-  module _ (past future : ℕ) where
-    abbrev counts : Counts
-    counts = record { past = past; future = future }
+  module _ (counts : Counts) where
+    abbrev format : Format
+    format = counts.format
+
+    abbrev past : ℕ
+    past = counts.past
+
+    abbrev future : ℕ
+    future = counts.future
 
     record AreRead (xs : List ℕ) (room : ℕ) (bench : Bench) : Type 0 where
       -- the values of the lines
@@ -215,27 +222,27 @@ module _ (readings : Readings) (now : Bench) (alone : now.timeline ≡ standing_
 
     -- the lines of moves from which the bench is taken
     lines-taken : (js ks : List Json) (ms ns : List (Label × State)) (bench : Bench) → length js ≡ past → length ks ≡ future
-        → moves_in readings now v js ≡ Some ms → moves_in readings now v ks ≡ Some ns → whole past ms ns ≡ bench
+        → moves_in readings format now v js ≡ Some ms → moves_in readings format now v ks ≡ Some ns → whole past ms ns ≡ bench
         → lines_bench readings counts now (js ++ ks) ≡ Some bench
     lines-taken js ks ms ns bench many more moves onward made =
         let both : length (js ++ ks) ≡ past + future = length-append js ks ∙ (λ i. many i + more i) in
         let test : (length (js ++ ks) == past + future) ≡ true = ap (λ n. n == past + future) both ∙ nat-itself (past + future) in
-        let back = ap (λ us. past_in readings now v us []) (ap (λ n. take n (js ++ ks)) (sym many) ∙ take-append_seam js ks)
-        ∙ past-moved readings now v js [] ms moves in
-        let on = ap (future_in readings now v) (ap (λ n. drop n (js ++ ks)) (sym many) ∙ drop-append_seam js ks) ∙ future-moved readings now v ks ns onward in
-        ap (option_and_then (λ p. option_and_then (with_moves counts now (js ++ ks) p) (future_in readings now v (drop past (js ++ ks))))) back
+        let back = ap (λ us. past_in readings format now v us []) (ap (λ n. take n (js ++ ks)) (sym many) ∙ take-append_seam js ks)
+        ∙ past-moved readings format now v js [] ms moves in
+        let on = ap (future_in readings format now v) (ap (λ n. drop n (js ++ ks)) (sym many) ∙ drop-append_seam js ks) ∙ future-moved readings format now v ks ns onward in
+        ap (option_and_then (λ p. option_and_then (with_moves counts now (js ++ ks) p) (future_in readings format now v (drop past (js ++ ks))))) back
         ∙ ap (option_and_then (with_moves counts now (js ++ ks) ((before ms).first, (before ms).later))) on
         ∙ ap (λ b. given_if b (with_timeline now (record { first = (before ms).first; later = (before ms).later ++ map step_of ns; place = past }))) test
-        ∙ ap Some (sym (whole-is past ms ns (moves-many readings now v js ms moves ∙ many)) ∙ made)
+        ∙ ap Some (sym (whole-is past ms ns (moves-many readings format now v js ms moves ∙ many)) ∙ made)
 
-    lines-read : (xs : List ℕ) (room : ℕ) (bench : Bench) → moves_from readings past future now xs room ≡ Ok bench → AreRead xs room bench
+    lines-read : (xs : List ℕ) (room : ℕ) (bench : Bench) → moves_from readings counts now xs room ≡ Ok bench → AreRead xs room bench
     lines-read xs room bench is =
-        let a = went readings now preceded preceded-lands (on_from readings past future) past (standing_after 0 v []) xs room bench (omega arith)
-        (ap (λ (b : Bench). along readings preceded (on_from readings past future) past b xs room) (sym here) ∙ is) in
-        let many = moves-many readings now v a.js a.ms a.moves ∙ a.many in
-        let b = went readings now appended appended-lands (last_read past) future (moved_to (before a.ms) past) a.ys a.left bench
+        let a = went readings format now preceded preceded-lands (on_from readings counts) past (standing_after 0 v []) xs room bench (omega arith)
+        (ap (λ (b : Bench). along readings format preceded (on_from readings counts) past b xs room) (sym here) ∙ is) in
+        let many = moves-many readings format now v a.js a.ms a.moves ∙ a.many in
+        let b = went readings format now appended appended-lands (last_read past) future (moved_to (before a.ms) past) a.ys a.left bench
         (before-placed a.ms past many) a.done in
-        let onward = ap (λ s. moves_in readings now s b.js) (sym (before-present a.ms past many)) ∙ b.moves in
+        let onward = ap (λ s. moves_in readings format now s b.js) (sym (before-present a.ms past many)) ∙ b.moves in
         let end = ended-ok readings (whole past a.ms b.ms) bench b.ys b.left (next_value readings b.left b.ys) (stands readings b.ys b.left) b.done in
         let none = ap length end.0 in
         let first = a.counted in
@@ -251,62 +258,62 @@ module _ (readings : Readings) (now : Bench) (alone : now.timeline ≡ standing_
 
     lines-found : (xs : List ℕ) (room : ℕ) (js : List Json) (bench : Bench) → lines_bench readings counts now js ≡ Some bench
         → values_of readings xs ≡ Some js → length xs ≤ room
-        → moves_from readings past future now xs room ≡ Ok bench
+        → moves_from readings counts now xs room ≡ Ok bench
     lines-found xs room js bench is values fits =
-        let of_past = λ (p : State × List Step). option_and_then (with_moves counts now js p) (future_in readings now v (drop past js)) in
-        let p = and_then-back of_past (past_in readings now v (take past js) []) bench is in
-        let f = and_then-back (with_moves counts now js p.0) (future_in readings now v (drop past js)) bench p.2 in
+        let of_past = λ (p : State × List Step). option_and_then (with_moves counts now js p) (future_in readings format now v (drop past js)) in
+        let p = and_then-back of_past (past_in readings format now v (take past js) []) bench is in
+        let f = and_then-back (with_moves counts now js p.0) (future_in readings format now v (drop past js)) bench p.2 in
         let made = with_timeline now (record { first = p.0.0; later = p.0.1 ++ f.0; place = past }) in
         let g = given-back (length js == past + future) made bench f.2 in
         let all = eqb-true (length js) (past + future) g.0 in
         let many : length (take past js) ≡ past = length-take-le past js (omega (arith, all)) in
         let left = length-drop past js in
         let more : length (drop past js) ≡ future = omega (arith, all, left) in
-        let a = moves-of-past readings now v (take past js) [] p.0 p.1 in
+        let a = moves-of-past readings format now v (take past js) [] p.0 p.1 in
         let counted = a.2 ∙ many in
-        let c = moves-of-future readings now v (drop past js) f.0 f.1 in
-        let onward = ap (λ s. moves_in readings now s (drop past js)) (before-present a.0 past counted) ∙ c.1 in
-        let r = reaches readings now preceded preceded-lands (on_from readings past future) (take past js) (drop past js) a.0 (standing_after 0 v []) xs room
+        let c = moves-of-future readings format now v (drop past js) f.0 f.1 in
+        let onward = ap (λ s. moves_in readings format now s (drop past js)) (before-present a.0 past counted) ∙ c.1 in
+        let r = reaches readings format now preceded preceded-lands (on_from readings counts) (take past js) (drop past js) a.0 (standing_after 0 v []) xs room
         (omega arith) a.1
         (values ∙ ap Some (sym (take-append-drop past js))) fits in
-        let q = reaches readings now appended appended-lands (last_read past) (drop past js) [] c.0 (moved_to (before a.0) past) r.ys r.left
+        let q = reaches readings format now appended appended-lands (last_read past) (drop past js) [] c.0 (moved_to (before a.0) past) r.ys r.left
         (before-placed a.0 past counted) onward
         (r.values ∙ ap Some (sym (append-nil (drop past js)))) r.fits in
-        let back = same_Some ((before a.0).first, (before a.0).later) p.0 (sym (past-moved readings now v (take past js) [] a.0 a.1) ∙ p.1) in
-        let on = same_Some (map step_of c.0) f.0 (sym (future-moved readings now v (drop past js) c.0 c.1) ∙ f.1) in
+        let back = same_Some ((before a.0).first, (before a.0).later) p.0 (sym (past-moved readings format now v (take past js) [] a.0 a.1) ∙ p.1) in
+        let on = same_Some (map step_of c.0) f.0 (sym (future-moved readings format now v (drop past js) c.0 c.1) ∙ f.1) in
         let same : whole past a.0 c.0 ≡ bench =
         whole-is past a.0 c.0 counted ∙ (λ i. with_timeline now (record { first = (back i).0; later = (back i).1 ++ on i; place = past })) ∙ g.1 in
-        ap (λ (b : Bench). along readings preceded (on_from readings past future) past b xs room) here
-        ∙ ap (λ n. along readings preceded (on_from readings past future) n (with_timeline now (standing_after 0 v [])) xs room) (sym many)
+        ap (λ (b : Bench). along readings format preceded (on_from readings counts) past b xs room) here
+        ∙ ap (λ n. along readings format preceded (on_from readings counts) n (with_timeline now (standing_after 0 v [])) xs room) (sym many)
         ∙ r.is
-        ∙ ap (λ n. along readings appended (last_read past) n (with_timeline now (moved_to (before a.0) past)) r.ys r.left) (sym more)
+        ∙ ap (λ n. along readings format appended (last_read past) n (with_timeline now (moved_to (before a.0) past)) r.ys r.left) (sym more)
         ∙ q.is
         ∙ ap (λ zs. ended_with readings (whole past a.0 c.0) zs q.left) (none-left readings q.ys q.values)
         ∙ ap Ok same
 
-    lines-fail : (xs : List ℕ) (room : ℕ) (f : MoveFault) → moves_from readings past future now xs room ≡ Err f
+    lines-fail : (xs : List ℕ) (room : ℕ) (f : MoveFault) → moves_from readings counts now xs room ≡ Err f
         → moves_fault readings counts now (lines_left xs room) ≡ f
     lines-fail xs room f is =
         let ts = lines_left xs room in
-        let behind = lines_fault readings now no_move_text v (take future (drop past ts)) in
+        let behind = lines_fault readings format now no_move_text v (take future (drop past ts)) in
         let none : length ts < past → behind ≡ no_move_text =
-        λ less. ap (λ us. lines_fault readings now no_move_text v us) (ap (take future) (drop_all past ts (omega (arith, less))) ∙ take-none future) in
-        fault-along readings now preceded preceded-lands (on_from readings past future) past (standing_after 0 v []) xs room behind f (omega arith) none
+        λ less. ap (λ us. lines_fault readings format now no_move_text v us) (ap (take future) (drop_all past ts (omega (arith, less))) ∙ take-none future) in
+        fault-along readings format now preceded preceded-lands (on_from readings counts) past (standing_after 0 v []) xs room behind f (omega arith) none
         (λ ms ys left many lines failed.
-        ap (λ s. lines_fault readings now no_move_text s (take future (drop past ts))) (sym (before-present ms past many))
-        ∙ ap (λ us. lines_fault readings now no_move_text (present (moved_to (before ms) past)) (take future us)) (sym lines)
-        ∙ fault-along readings now appended appended-lands (last_read past) future (moved_to (before ms) past) ys left no_move_text f
+        ap (λ s. lines_fault readings format now no_move_text s (take future (drop past ts))) (sym (before-present ms past many))
+        ∙ ap (λ us. lines_fault readings format now no_move_text (present (moved_to (before ms) past)) (take future us)) (sym lines)
+        ∙ fault-along readings format now appended appended-lands (last_read past) future (moved_to (before ms) past) ys left no_move_text f
         (before-placed ms past many) (λ less. refl)
         (λ ns zs rest more behind_lines h. ended-fault (whole past ms ns) f (next_value readings rest zs) h) failed)
-        (ap (λ (b : Bench). along readings preceded (on_from readings past future) past b xs room) (sym here) ∙ is)
+        (ap (λ (b : Bench). along readings format preceded (on_from readings counts) past b xs room) (sym here) ∙ is)
 
 -- ---- the whole file
 
 -- a present object makes a bench of one state
-present-alone : (readings : Readings) (schema : Schema) (v : Json) (now : Bench) → present_in readings schema v ≡ Some now
+present-alone : (readings : Readings) (f : Format) (schema : Schema) (v : Json) (now : Bench) → present_in readings f schema v ≡ Some now
     → now.timeline ≡ standing_after 0 now.timeline.first []
-present-alone readings schema v now is =
-    let made = lone-parts readings schema v now (present-from v (bench_of readings schema v) now is).0 in
+present-alone readings f schema v now is =
+    let made = lone-parts readings schema v now (present-from v f (bench_of readings schema v) now is).0 in
     made.alone
 
 -- what is taken of no more bytes than a file may have comes of so few
@@ -320,11 +327,11 @@ within-limit n o bench h = by (nat_le n most_bench_bytes) refl h
 module _ (readings : Readings) where
   -- what is read behind the present object: the past, the future and the end
   abbrev pub after_now : Counts → Bench → List ℕ → ℕ → Result Bench MoveFault
-  after_now counts = moves_from readings counts.past counts.future
+  after_now counts = moves_from readings counts
 
   -- what is read behind the schema: the present object, and what follows it
   abbrev pub after_source : Counts → Schema → List ℕ → ℕ → Result Bench MoveFault
-  after_source counts schema = with_part readings (present_in readings schema) (after_now counts)
+  after_source counts schema = with_part readings (present_in readings counts.format schema) (after_now counts)
 
   -- what is read behind the head: the schema, and what follows it
   abbrev pub after_head : Counts → List ℕ → ℕ → Result Bench MoveFault
@@ -338,7 +345,7 @@ module _ (readings : Readings) where
   of_now counts js b = lines_bench readings counts b js
 
   abbrev of_schema : Counts → Json → List Json → Schema → Option Bench
-  of_schema counts now js schema = option_and_then (of_now counts js) (present_in readings schema now)
+  of_schema counts now js schema = option_and_then (of_now counts js) (present_in readings counts.format schema now)
 
   abbrev of_counts : Json → Json → List Json → Counts → Option Bench
   of_counts source now js counts = option_and_then (of_schema counts now js) (schema_in source)
@@ -347,8 +354,8 @@ module _ (readings : Readings) where
   file-taken t bench is =
       let a = part-went readings counts_in after_head t most_bench_bytes bench is in
       let b = part-went readings schema_in (after_source a.taken) a.ys a.left bench a.done in
-      let c = part-went readings (present_in readings b.taken) (after_now a.taken) b.ys b.left bench b.done in
-      let d = lines-read readings c.taken (present-alone readings b.taken c.value c.taken c.took) a.taken.past a.taken.future c.ys c.left bench c.done in
+      let c = part-went readings (present_in readings a.taken.format b.taken) (after_now a.taken) b.ys b.left bench b.done in
+      let d = lines-read readings c.taken (present-alone readings a.taken.format b.taken c.value c.taken c.took) a.taken c.ys c.left bench c.done in
       let first = a.counted in
       let second = b.counted in
       let third = c.counted in
@@ -373,12 +380,12 @@ module _ (readings : Readings) where
   values-taken t bench (head ∷ source ∷ now ∷ js) values small is =
       let counts = and_then-back (of_counts source now js) (counts_in head) bench is in
       let schema = and_then-back (of_schema counts.0 now js) (schema_in source) bench counts.2 in
-      let there = and_then-back (of_now counts.0 js) (present_in readings schema.0 now) bench schema.2 in
+      let there = and_then-back (of_now counts.0 js) (present_in readings counts.0.format schema.0 now) bench schema.2 in
       let a = part-reaches readings counts_in after_head t most_bench_bytes head (source ∷ now ∷ js) counts.0 values small counts.1 in
       let b = part-reaches readings schema_in (after_source counts.0) a.ys a.left source (now ∷ js) schema.0 a.values a.fits schema.1 in
-      let c = part-reaches readings (present_in readings schema.0) (after_now counts.0) b.ys b.left now js there.0 b.values b.fits there.1 in
+      let c = part-reaches readings (present_in readings counts.0.format schema.0) (after_now counts.0) b.ys b.left now js there.0 b.values b.fits there.1 in
       a.is ∙ b.is ∙ c.is
-      ∙ lines-found readings there.0 (present-alone readings schema.0 now there.0 there.1) counts.0.past counts.0.future c.ys c.left js bench there.2 c.values
+      ∙ lines-found readings there.0 (present-alone readings counts.0.format schema.0 now there.0 there.1) counts.0 c.ys c.left js bench there.2 c.values
       c.fits
 
   file-found : (t : Text) (bench : Bench) → recorded_bench_in readings t ≡ Some bench → recorded_from t most_bench_bytes ≡ Ok bench
@@ -401,7 +408,7 @@ module _ (readings : Readings) where
   not-opened (a ∷ b ∷ c ∷ ts) f none is = ap (of_opening ts) (none a b c ts refl) ∙ is
 
   abbrev opened_now : Counts → Text → Schema → Option (Counts × Bench)
-  opened_now counts c schema = option_map (λ (x : Bench). (counts, x)) (part_of readings (present_in readings schema) c)
+  opened_now counts c schema = option_map (λ (x : Bench). (counts, x)) (part_of readings (present_in readings counts.format schema) c)
 
   abbrev opened_schema : Text → Text → Counts → Option (Counts × Bench)
   opened_schema b c counts = option_and_then (opened_now counts c) (part_of readings schema_in b)
@@ -414,19 +421,19 @@ module _ (readings : Readings) where
     Fails = texts_fault readings all_lines ≡ f
 
     after-all : (a : FailsBehind readings counts_in after_head t most_bench_bytes f) → (b : FailsBehind readings schema_in (after_source a.taken) a.ys a.left f)
-        → (c : FailsBehind readings (present_in readings b.taken) (after_now a.taken) b.ys b.left f)
-        → (there : (v : Json) × (present_in readings b.taken v ≡ Some c.taken)) → Fails
+        → (c : FailsBehind readings (present_in readings a.taken.format b.taken) (after_now a.taken) b.ys b.left f)
+        → (there : (v : Json) × (present_in readings a.taken.format b.taken v ≡ Some c.taken)) → Fails
     after-all a b c there =
         let lines = a.lines ∙ ap (λ us. a.text ∷ us) (b.lines ∙ ap (λ us. b.text ∷ us) c.lines) in
         let opened : opening_in readings a.text b.text c.text ≡ Some (a.taken, c.taken) =
         ap (option_and_then (opened_schema b.text c.text)) a.took ∙ ap (option_and_then (opened_now a.taken c.text)) b.took
         ∙ ap (option_map (λ (x : Bench). (a.taken, x))) c.took in
         ap (texts_fault readings) lines ∙ ap (of_opening (lines_left c.ys c.left)) opened
-        ∙ lines-fail readings c.taken (present-alone readings b.taken there.0 c.taken there.1) a.taken.past a.taken.future c.ys c.left f c.failed
+        ∙ lines-fail readings c.taken (present-alone readings a.taken.format b.taken there.0 c.taken there.1) a.taken c.ys c.left f c.failed
 
     after-two : (a : FailsBehind readings counts_in after_head t most_bench_bytes f) → (b : FailsBehind readings schema_in (after_source a.taken) a.ys a.left f)
-        → PartFails readings (present_in readings b.taken) (after_now a.taken) b.ys b.left f
-        ⊎ FailsBehind readings (present_in readings b.taken) (after_now a.taken) b.ys b.left f → Fails
+        → PartFails readings (present_in readings a.taken.format b.taken) (after_now a.taken) b.ys b.left f
+        ⊎ FailsBehind readings (present_in readings a.taken.format b.taken) (after_now a.taken) b.ys b.left f → Fails
     after-two a b (inl none) = not-opened all_lines f (λ x y z us e.
         let rest = same-tail a.text x (lines_left a.ys a.left) (y ∷ z ∷ us) (sym a.lines ∙ e) in
         let last = same-tail b.text y (lines_left b.ys b.left) (z ∷ us) (sym b.lines ∙ rest) in
@@ -437,7 +444,7 @@ module _ (readings : Readings) where
         ∙ ap (option_and_then (opened_now a.taken z)) b.took
         ∙ ap (option_map (λ (x : Bench). (a.taken, x))) (none.none z us last)) none.fault
     after-two a b (inr c) =
-        let spelled = and_then-back (present_in readings b.taken) (spelled_value readings c.text) c.taken c.took in
+        let spelled = and_then-back (present_in readings a.taken.format b.taken) (spelled_value readings c.text) c.taken c.took in
         after-all a b c (spelled.0, spelled.2)
 
     after-one : (a : FailsBehind readings counts_in after_head t most_bench_bytes f)
@@ -447,7 +454,7 @@ module _ (readings : Readings) where
         ap (λ w. opening_in readings w y z) (sym (same-first a.text x (lines_left a.ys a.left) (y ∷ z ∷ us) (sym a.lines ∙ e)))
         ∙ ap (option_and_then (opened_schema y z)) a.took
         ∙ ap (option_and_then (opened_now a.taken z)) (none.none y (z ∷ us) rest)) none.fault
-    after-one a (inr b) = after-two a b (part-fault readings (present_in readings b.taken) (after_now a.taken) b.ys b.left f b.failed)
+    after-one a (inr b) = after-two a b (part-fault readings (present_in readings a.taken.format b.taken) (after_now a.taken) b.ys b.left f b.failed)
 
     after-none : PartFails readings counts_in after_head t most_bench_bytes f ⊎ FailsBehind readings counts_in after_head t most_bench_bytes f → Fails
     after-none (inl none) = not-opened all_lines f (λ x y z us e. ap (option_and_then (opened_schema y z)) (none.none x (y ∷ z ∷ us) e)) none.fault

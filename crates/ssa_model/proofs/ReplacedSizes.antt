@@ -1,10 +1,10 @@
 -- How large a body is with a part in place of what it has at and below a path.
-use Rattle.std.proofs.Common.{◌≡◌, ℕ, ◌+◌, ◌≤◌, List, [], ◌∷◌, ◌++◌, map, length, Bool, true, false, cond, not, ◌&&◌, Some, None, refl, sym, ap, ◌∙◌, arith}
+use Rattle.std.proofs.Common.{◌≡◌, ◌+◌, List, [], ◌∷◌, ◌++◌, map, length, Bool, true, false, cond, not, ◌&&◌, Some, None, refl, sym, ap, ◌∙◌, arith}
 use Rattle.std.proofs.lemmas.List.{length-map}
 use Rattle.std.specs.Cmp.{first_so, second_so}
 use Rattle.std.specs.Prelude.{is_some}
 use Rattle.ssa_model.specs.definitions.Path.{Path, same_path, under}
-use Rattle.ssa_model.specs.definitions.PathMap.{PathMap, PathSet, get, has, paths, set_of, size, below, marked, listed}
+use Rattle.ssa_model.specs.definitions.PathMap.{PathSet, has, paths, set_of, size, below, marked, listed}
 use Rattle.ssa_model.specs.definitions.Body.{Body}
 use Rattle.ssa_model.specs.definitions.Facts.{one_if}
 use Rattle.ssa_model.specs.laws.RecordPlaces.{replaced, ReplacedSize}

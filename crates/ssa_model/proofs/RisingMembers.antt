@@ -11,7 +11,6 @@ use Rattle.ssa_model.specs.laws.MemberNames.{RisingIsDistinct}
 use Rattle.ssa_model.proofs.RisingNames.{before}
 use Rattle.ssa_model.proofs.Tables.{same_text-true}
 use Rattle.ssa_model.proofs.OneWriting.{below-on}
-use Rattle.ssa_model.proofs.Basics.{lower}
 
 below-apart : (n m : Text) → before n m ≡ true → same_text n m ≡ false
 below-apart n m up =

@@ -1,5 +1,5 @@
 -- What is read of a bench file of whole states line by line is what is taken of its text.
-use Rattle.std.proofs.Common.{◌≡◌, ◌≤◌, ◌<◌, ℕ, zero, suc, ◌+◌, ◌-◌, length, List, [], ◌∷◌, ◌++◌, true, ◌⊎◌, inl, inr, Option, Some, None, option_map, option_and_then, refl, sym, ap, ◌∙◌, subst, arith, append_assoc, append-nil, eqb-true}
+use Rattle.std.proofs.Common.{◌≡◌, ◌≤◌, ℕ, zero, suc, ◌+◌, ◌-◌, length, List, [], ◌∷◌, ◌++◌, true, ◌⊎◌, inl, inr, Option, Some, None, option_map, option_and_then, refl, sym, ap, ◌∙◌, subst, arith, append_assoc, append-nil, eqb-true}
 use Rattle.std.proofs.Math.Seq.{take-length}
 use Rattle.std.proofs.lemmas.Option.{same_Some, none-some}
 use Rattle.std.specs.Prelude.{◌==◌, if◌then◌else◌, nat_le, Result, Ok, Err}
@@ -14,7 +14,7 @@ use Rattle.ssa_model.specs.laws.BenchFiles.{Head, head_in, schema_in, object_in,
 use Rattle.ssa_model.specs.laws.RecordedBenches.{MoveFault, no_move_text}
 use Rattle.ssa_model.specs.laws.LineByLine.{Reader, gone_on, at_place, with_part, next_value, ended_with, steps_from, later_from}
 use Rattle.ssa_model.proofs.AlongLines.{part-went, part-reaches, part-fault, PartFails, FailsBehind}
-use Rattle.ssa_model.proofs.Basics.{nat_le-of, le-of}
+use Rattle.ssa_model.proofs.Basics.{nat_le-of}
 use Rattle.ssa_model.proofs.Given.{and_then-back, given-back, map-back, tested-back}
 use Rattle.ssa_model.proofs.LoneBenches.{lone-parts}
 use Rattle.ssa_model.proofs.NextValues.{no-values, stands, none-left}

@@ -19,9 +19,10 @@ use Rattle.ssa_model.specs.definitions.Replies.{label_json}
 use Rattle.ssa_model.specs.definitions.Table.{Table, same_manager}
 use Rattle.ssa_model.specs.definitions.History.{Label, applied, updated, stripped, Step, Bench, is_manager_name}
 use Rattle.ssa_model.specs.definitions.Answers.{Fault, lone_bench, file_state, bench_of}
-use Rattle.ssa_model.specs.definitions.BenchText.{head_of, head_json, whole_object, first_json, step_json, bench_values, bench_text}
+use Rattle.ssa_model.specs.definitions.BenchText.{states, head_of, head_json, whole_object, first_json, step_json, bench_values, bench_text}
 use Rattle.ssa_model.specs.definitions.Valid.{AllEntries, IsValidState, shared_managers, KeepsOrder, KeepsOrders}
 use Rattle.ssa_model.specs.definitions.BenchFile.{IsReadBack, IsLabel, IsStep, IsSpelled, IsValidBench}
+use Rattle.ssa_model.specs.definitions.Formats.{can_tell_label, can_tell_state, CanTellStep, CanTell}
 use Rattle.ssa_model.specs.laws.BenchFiles.{text_lines, spelled_values, given_if, is_written_as, Head, head_in, schema_in, lone_in, said_label, is_label, label_in, keeps_order, step_with, step_in, steps_in, with_steps, values_bench, bench_in, BenchFilesAreTaken}
 use Rattle.ssa_model.proofs.LoneBenches.{lone-parts}
 use Rattle.ssa_model.proofs.ShownStates.{shown_state_is_taken}
@@ -37,12 +38,12 @@ written-itself v = text-itself (compact v)
 -- ---- the head and the schema
 
 -- a head that is written is taken, where its place is that of a state, and there are no more states than a bench keeps
-pub head-back : (place states : ℕ) → nat_lt place states ≡ true → nat_le states (most_past + 1) ≡ true
-    → head_in (head_of place states) ≡ Some (record { place = place; states = states })
-head-back place states within few =
-    ap (λ b. given_if {X = Head} b (record { place = place; states = states }))
-    (and_from (is_written_as (head_of place states) (head_of place states)) (nat_lt place states && nat_le states (most_past + 1))
-    (written-itself (head_of place states)) (and_from (nat_lt place states) (nat_le states (most_past + 1)) within few))
+pub head-back : (place count : ℕ) → nat_lt place count ≡ true → nat_le count (most_past + 1) ≡ true
+    → head_in (head_of place count) ≡ Some (record { place = place; states = count })
+head-back place count within few =
+    ap (λ b. given_if {X = Head} b (record { place = place; states = count }))
+    (and_from (is_written_as (head_of place count) (head_of place count)) (nat_lt place count && nat_le count (most_past + 1))
+    (written-itself (head_of place count)) (and_from (nat_lt place count) (nat_le count (most_past + 1)) within few))
 
 -- a schema that is read is taken from its value
 pub schema-back : (schema : Schema) → read_schema schema.source ≡ Ok schema.kind → schema_in schema.source ≡ Some schema
@@ -51,10 +52,15 @@ schema-back schema h = ap (λ (r : Result Kind SchemaFault). elim r [ Ok kind �
 -- ---- the states
 
 lone-by : (v : Json) (r : Result Bench Fault) (lone : Bench)
-    → r ≡ Ok lone → first_json lone ≡ v → elim r [ Ok bench ↦ given_if (is_written_as (first_json bench) v) bench | Err f ↦ None ] ≡ Some lone
-lone-by v r lone is same =
-    ap (λ (r : Result Bench Fault). elim r [ Ok bench ↦ given_if (is_written_as (first_json bench) v) bench | Err f ↦ None ]) is
-    ∙ ap (λ b. given_if b lone) (ap (is_written_as (first_json lone)) (sym same) ∙ written-itself (first_json lone))
+    → r ≡ Ok lone → first_json lone ≡ v → can_tell_state states lone.timeline.first ≡ true
+    → elim r [ Ok bench ↦ given_if (is_written_as (first_json bench) v && can_tell_state states bench.timeline.first) bench | Err f ↦ None ] ≡ Some lone
+lone-by v r lone is same tells =
+    ap
+    (λ (r : Result Bench Fault). elim r
+    [ Ok bench ↦ given_if (is_written_as (first_json bench) v && can_tell_state states bench.timeline.first) bench | Err f ↦ None ]) is
+    ∙ ap (λ b. given_if b lone)
+    (and_from (is_written_as (first_json lone) v) (can_tell_state states lone.timeline.first)
+    (ap (is_written_as (first_json lone)) (sym same) ∙ written-itself (first_json lone)) tells)
 
 -- ---- labels and the order of managers
 
@@ -109,22 +115,29 @@ module _ (readings : Readings) (bench : Bench) where
   made_of before v r label = elim r [ Ok state ↦ step_with bench before v label state | Err f ↦ None ]
 
   step-back : (before : State) (s : Step)
-      → IsTaken s.state → IsLabel readings s.label → KeepsOrder before.table s.state.table → step_in readings bench before (step_json bench s) ≡ Some s
-  step-back before s taken label kept =
+      → IsTaken s.state → IsLabel readings s.label → KeepsOrder before.table s.state.table → CanTellStep states s
+      → step_in readings bench before (step_json bench s) ≡ Some s
+  step-back before s taken label kept tells =
       let v = step_json bench s in
       ap (option_and_then (made_of before v (file_state readings bench.schema.kind (whole_object bench s.state)))) (label-back readings s.label label)
       ∙ ap (λ r. made_of before v r s.label) taken
       ∙ ap (λ b. given_if b s)
-      (and_from (is_written_as v v) (keeps_order before.table s.state.table) (written-itself v) (keeps_order-of before.table s.state.table kept))
+      (and_from (is_written_as v v) (keeps_order before.table s.state.table && (can_tell_label states s.label && can_tell_state states s.state))
+      (written-itself v)
+      (and_from (keeps_order before.table s.state.table) (can_tell_label states s.label && can_tell_state states s.state)
+      (keeps_order-of before.table s.state.table kept)
+      (and_from (can_tell_label states s.label) (can_tell_state states s.state) tells.0 tells.1)))
 
   steps-back : (before : State) (ss : List Step)
-      → All (λ s. IsTaken s.state) ss → All (IsStep readings) ss → KeepsOrders before ss → steps_in readings bench before (map (step_json bench) ss) ≡ Some ss
-  steps-back before [] taken steps kept = refl
-  steps-back before (s ∷ ss) taken steps kept =
+      → All (λ s. IsTaken s.state) ss → All (IsStep readings) ss → KeepsOrders before ss → All (CanTellStep states) ss
+      → steps_in readings bench before (map (step_json bench) ss) ≡ Some ss
+  steps-back before [] taken steps kept tells = refl
+  steps-back before (s ∷ ss) taken steps kept tells =
       let here = All-head (IsStep readings) s ss steps in
-      let rest = steps-back s.state ss (All-tail (λ t. IsTaken t.state) s ss taken) (All-tail (IsStep readings) s ss steps) kept.1 in
+      let rest = steps-back s.state ss (All-tail (λ t. IsTaken t.state) s ss taken) (All-tail (IsStep readings) s ss steps) kept.1
+      (All-tail (CanTellStep states) s ss tells) in
       ap (option_and_then (λ t. option_map (λ ts. t ∷ ts) (steps_in readings bench t.state (map (step_json bench) ss))))
-      (step-back before s (All-head (λ t. IsTaken t.state) s ss taken) here.label kept.0)
+      (step-back before s (All-head (λ t. IsTaken t.state) s ss taken) here.label kept.0 (All-head (CanTellStep states) s ss tells))
       ∙ ap (option_map (λ ts. s ∷ ts)) rest
 
 -- ---- the bench
@@ -143,19 +156,20 @@ module _ (readings : Readings) (bench : Bench) (named : is_identity bench.identi
   pub state-back : IsTaken readings bench state
   state-back = (lone-parts readings bench.schema (whole_object bench state) (lone_bench bench.schema bench.identity state) shown-back).state_is
 
-module _ (readings : Readings) (bench : Bench) (valid : IsValidBench readings bench) where
+module _ (readings : Readings) (bench : Bench) (valid : IsValidBench readings bench) (tells : CanTell states bench.timeline) where
   abbrev lone : Bench
   lone = lone_bench bench.schema bench.identity bench.timeline.first
 
   lone-back : lone_in readings bench.schema (first_json bench) ≡ Some lone
   lone-back =
       lone-by (first_json bench) (bench_of readings bench.schema (whole_object bench bench.timeline.first)) lone
-      (shown-back readings bench valid.named valid.accepted bench.timeline.first valid.states.first valid.first) refl
+      (shown-back readings bench valid.named valid.accepted bench.timeline.first valid.states.first valid.first) refl tells.first
 
   later-back : steps_in readings lone bench.timeline.first (map (step_json bench) bench.timeline.later) ≡ Some bench.timeline.later
   later-back =
       steps-back readings lone bench.timeline.first bench.timeline.later
       (λ k d h. state-back readings bench valid.named valid.accepted _ (valid.states.later k d h) (valid.steps k d h).table) valid.steps valid.order
+      tells.later
 
   abbrev written_head : Head
   written_head = record { place = bench.timeline.place; states = length bench.timeline.later + 1 }
@@ -208,4 +222,4 @@ module _ (readings : Readings) (bench : Bench) (valid : IsValidBench readings be
 
 -- the law
 pub bench_file_is_taken : BenchFilesAreTaken
-bench_file_is_taken readings bench valid fits spelled = text-back readings bench valid fits spelled
+bench_file_is_taken readings bench valid tells fits spelled = text-back readings bench valid tells fits spelled

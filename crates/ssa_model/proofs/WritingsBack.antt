@@ -10,7 +10,7 @@ use Rattle.std.specs.FinMap.Entries.{below_all, is_sorted}
 use Rattle.std.specs.Ordering.{is_eq}
 use Rattle.ssa_model.specs.definitions.Json.{Json, object, Members, no_members, member, same_text, same_json, same_members}
 use Rattle.ssa_model.specs.definitions.Path.{Element, Path, element_text, element_cmp, path_cmp, same_element, same_path, is_root}
-use Rattle.ssa_model.specs.definitions.PathMap.{PathSet, has, paths}
+use Rattle.ssa_model.specs.definitions.PathMap.{PathSet, paths}
 use Rattle.ssa_model.specs.definitions.Kind.{is_among}
 use Rattle.ssa_model.specs.definitions.Readings.{Readings}
 use Rattle.ssa_model.specs.definitions.ElementTexts.{ElementFault, not_canonical, bad_element, element_of}

@@ -1,8 +1,10 @@
 -- The values of a bench file are those written of the bench that is taken from them, and its text is the bench's.
-use Rattle.std.proofs.Common.{◌≡◌, ◌<◌, ◌+◌, length, List, [], ◌∷◌, map, ◌&&◌, Option, Some, None, option_and_then, sym, ap, subst, ◌∙◌, arith, eqb-true}
+use Rattle.std.proofs.Common.{◌≡◌, ◌<◌, ◌+◌, length, List, [], ◌∷◌, map, true, ◌&&◌, Option, Some, None, option_and_then, sym, ap, subst, ◌∙◌, arith, eqb-true}
 use Rattle.std.proofs.lemmas.Bool.{and_parts}
 use Rattle.std.proofs.lemmas.Bool.Decides.{nat_tests}
+use Rattle.std.proofs.lemmas.List.Elements.{All-nil, All-cons}
 use Rattle.std.proofs.lemmas.Option.{same_Some, none-some}
+use Rattle.std.specs.List.{All}
 use Rattle.std.specs.Prelude.{◌==◌, codes, nat_lt, nat_le, Result, Ok, Err}
 use Rattle.ssa_model.specs.definitions.Limits.{most_past, most_bench_bytes}
 use Rattle.ssa_model.specs.definitions.Json.{Json, member_at, compact}
@@ -14,7 +16,8 @@ use Rattle.ssa_model.specs.definitions.Operations.{State}
 use Rattle.ssa_model.specs.definitions.History.{Label, Step, Bench, with_timeline}
 use Rattle.ssa_model.specs.definitions.Answers.{Fault, file_state, bench_of}
 use Rattle.ssa_model.specs.definitions.Lines.{ended}
-use Rattle.ssa_model.specs.definitions.BenchText.{head_of, first_json, step_json, bench_values}
+use Rattle.ssa_model.specs.definitions.BenchText.{states, head_of, first_json, step_json, bench_values}
+use Rattle.ssa_model.specs.definitions.Formats.{can_tell_label, can_tell_state, CanTellStep, CanTell}
 use Rattle.ssa_model.specs.laws.BenchFiles.{text_lines, spelled_values, given_if, is_written_as, number_in, Head, head_in, schema_in, object_in, lone_in, keeps_order, step_with, step_in, steps_in, with_steps, values_bench, label_in, TakenIsItsText}
 use Rattle.ssa_model.proofs.Given.{given-back, tested-back, and_then-back, map-back}
 use Rattle.ssa_model.proofs.LoneBenches.{lone-parts}
@@ -27,13 +30,13 @@ use Rattle.ssa_model.proofs.Tables.{same_text-true}
 pub head-from : (v : Json) (h : Head) → head_in v ≡ Some h → (compact v ≡ compact (head_of h.place h.states)) × (h.place < h.states)
 head-from v h is =
     let place = and_then-back _ (number_in (member_at (codes "place") v)) h is in
-    let states = and_then-back _ (number_in (member_at (codes "states") v)) h place.2 in
-    let written = is_written_as (head_of place.0 states.0) v in
-    let got = given-back (written && (nat_lt place.0 states.0 && nat_le states.0 (most_past + 1))) (record { place = place.0; states = states.0 }) h states.2 in
+    let count = and_then-back _ (number_in (member_at (codes "states") v)) h place.2 in
+    let written = is_written_as (head_of place.0 count.0) v in
+    let got = given-back (written && (nat_lt place.0 count.0 && nat_le count.0 (most_past + 1))) (record { place = place.0; states = count.0 }) h count.2 in
     let tests = and_parts written _ got.0 in
-    let first = (and_parts (nat_lt place.0 states.0) (nat_le states.0 (most_past + 1)) tests.1).0 in
-    let within : place.0 < states.0 = grind (arith, nat_tests, first) in (
-      sym (same_text-true (compact (head_of place.0 states.0)) (compact v) tests.0) ∙ ap (λ (x : Head). compact (head_of x.place x.states)) got.1,
+    let first = (and_parts (nat_lt place.0 count.0) (nat_le count.0 (most_past + 1)) tests.1).0 in
+    let within : place.0 < count.0 = grind (arith, nat_tests, first) in (
+      sym (same_text-true (compact (head_of place.0 count.0)) (compact v) tests.0) ∙ ap (λ (x : Head). compact (head_of x.place x.states)) got.1,
       subst (λ (x : Head). x.place < x.states) got.1 within,
     )
 
@@ -45,42 +48,57 @@ schema-from v (Err f) schema is = absurd (none-some schema is)
 
 -- ---- the first state
 
--- the bench that is taken of a first state's value is made from its object, and is written so
+-- the bench that is taken of a first state's value is made from its object, is written so, and the format can tell its managers
 pub lone-from : (v : Json) (r : Result Bench Fault) (lone : Bench)
-    → elim r [ Ok bench ↦ given_if (is_written_as (first_json bench) v) bench | Err f ↦ None ] ≡ Some lone → (r ≡ Ok lone)
-    × (compact v ≡ compact (first_json lone))
+    → elim r [ Ok bench ↦ given_if (is_written_as (first_json bench) v && can_tell_state states bench.timeline.first) bench | Err f ↦ None ] ≡ Some lone
+    → (r ≡ Ok lone) × (compact v ≡ compact (first_json lone)) × (can_tell_state states lone.timeline.first ≡ true)
 lone-from v (Ok bench) lone is =
-    let got = given-back (is_written_as (first_json bench) v) bench lone is in
-    (ap Ok got.1, sym (same_text-true (compact (first_json bench)) (compact v) got.0) ∙ ap (λ b. compact (first_json b)) got.1)
+    let got = given-back (is_written_as (first_json bench) v && can_tell_state states bench.timeline.first) bench lone is in
+    let tests = and_parts (is_written_as (first_json bench) v) (can_tell_state states bench.timeline.first) got.0 in (
+      ap Ok got.1,
+      sym (same_text-true (compact (first_json bench)) (compact v) tests.0) ∙ ap (λ b. compact (first_json b)) got.1,
+      sym (ap (λ (b : Bench). can_tell_state states b.timeline.first) got.1) ∙ tests.1,
+    )
 lone-from v (Err f) lone is = absurd (none-some lone is)
 
 -- ---- the later states
 
 module _ (readings : Readings) (bench : Bench) where
   step-from : (before : State) (v : Json) (label : Label) (r : Result State Fault) (s : Step)
-      → elim r [ Ok state ↦ step_with bench before v label state | Err f ↦ None ] ≡ Some s → compact v ≡ compact (step_json bench s)
+      → elim r [ Ok state ↦ step_with bench before v label state | Err f ↦ None ] ≡ Some s
+      → (compact v ≡ compact (step_json bench s)) × CanTellStep states s
   step-from before v label (Ok state) s is =
       let made : Step = record { label = label; state = state } in
-      let got = given-back (is_written_as (step_json bench made) v && keeps_order before.table state.table) made s is in
-      sym (same_text-true (compact (step_json bench made)) (compact v) (and_parts (is_written_as (step_json bench made) v) _ got.0).0)
-      ∙ ap (λ t. compact (step_json bench t)) got.1
+      let tells = can_tell_label states label && can_tell_state states state in
+      let got = given-back (is_written_as (step_json bench made) v && (keeps_order before.table state.table && tells)) made s is in
+      let tests = and_parts (is_written_as (step_json bench made) v) (keeps_order before.table state.table && tells) got.0 in
+      let told = and_parts (can_tell_label states label) (can_tell_state states state) (and_parts (keeps_order before.table state.table) tells tests.1).1 in (
+        sym (same_text-true (compact (step_json bench made)) (compact v) tests.0)
+            ∙ ap (λ t. compact (step_json bench t)) got.1,
+        subst (CanTellStep states) got.1 told,
+      )
   step-from before v label (Err f) s is = absurd (none-some s is)
 
   steps-from : (before : State) (vs : List Json) (ss : List Step) → steps_in readings bench before vs ≡ Some ss
-      → map compact vs ≡ map compact (map (step_json bench) ss)
-  steps-from before [] ss is = ap (λ ts. map compact (map (step_json bench) ts)) (same_Some [] ss is)
+      → (map compact vs ≡ map compact (map (step_json bench) ss)) × All (CanTellStep states) ss
+  steps-from before [] ss is =
+      let same = same_Some [] ss is in
+      (ap (λ ts. map compact (map (step_json bench) ts)) same, subst (All (CanTellStep states)) same (All-nil (CanTellStep states)))
   steps-from before (v ∷ vs) ss is =
       let first = and_then-back _ (step_in readings bench before v) ss is in
       let rest = map-back (λ ts. first.0 ∷ ts) (steps_in readings bench first.0.state vs) ss first.2 in
       let made = and_then-back _ (label_in readings (value_in (member_at (codes "command") v))) first.0 first.1 in
-      (λ i. step-from before v made.0 (file_state readings bench.schema.kind (object_in v)) first.0 made.2 i ∷ steps-from first.0.state vs rest.0 rest.1 i)
-      ∙ ap (λ ts. map compact (map (step_json bench) ts)) rest.2
+      let own = step-from before v made.0 (file_state readings bench.schema.kind (object_in v)) first.0 made.2 in
+      let later = steps-from first.0.state vs rest.0 rest.1 in (
+        (λ i. own.0 i ∷ later.0 i) ∙ ap (λ ts. map compact (map (step_json bench) ts)) rest.2,
+        subst (All (CanTellStep states)) rest.2 (All-cons (CanTellStep states) first.0 rest.0 own.1 later.1),
+      )
 
 -- ---- the bench
 
 module _ (readings : Readings) (head source first : Json) (later : List Json) (bench : Bench) where
   abbrev Written : Type 0
-  Written = map compact (head ∷ source ∷ first ∷ later) ≡ map compact (bench_values bench)
+  Written = (map compact (head ∷ source ∷ first ∷ later) ≡ map compact (bench_values bench)) × CanTell states bench.timeline
 
   by-steps : (h : Head) (schema : Schema) (lone : Bench) (steps : List Step)
       → head_in head ≡ Some h → schema_in source ≡ Some schema → lone_in readings schema first ≡ Some lone
@@ -96,8 +114,9 @@ module _ (readings : Readings) (head source first : Json) (later : List Json) (b
       let source_is = schema-from source (read_schema source) schema schemed ∙ ap (λ (x : Schema). x.source) schema_is in
       let steps_are = steps-from readings lone lone.timeline.first later steps stepped in
       let written : map compact (head ∷ source ∷ first ∷ later) ≡ map compact (bench_values made) =
-      λ i. head_is i ∷ compact (source_is i) ∷ lone_is.1 i ∷ steps_are i in
-      written ∙ ap (λ b. map compact (bench_values b)) got.1
+      λ i. head_is i ∷ compact (source_is i) ∷ lone_is.1 i ∷ steps_are.0 i in
+      let tells : CanTell states made.timeline = record { first = lone_is.2; later = steps_are.1 } in
+      (written ∙ ap (λ b. map compact (bench_values b)) got.1, subst (λ (b : Bench). CanTell states b.timeline) got.1 tells)
 
   abbrev of_lone : Head → Bench → Option Bench
   of_lone h lone = option_and_then (with_steps h lone) (steps_in readings lone lone.timeline.first later)
@@ -129,9 +148,9 @@ module _ (readings : Readings) (head source first : Json) (later : List Json) (b
       let got = and_then-back of_head (head_in head) bench is in
       by-head got.0 got.1 got.2
 
--- the values from which a bench is taken have the texts of those that are written of it
+-- the values from which a bench is taken have the texts of those that are written of it, of which the format can tell
 pub values-written : (readings : Readings) (vs : List Json) (bench : Bench) → values_bench readings vs ≡ Some bench
-    → map compact vs ≡ map compact (bench_values bench)
+    → (map compact vs ≡ map compact (bench_values bench)) × CanTell states bench.timeline
 values-written readings [] bench is = absurd (none-some bench is)
 values-written readings (head ∷ []) bench is = absurd (none-some bench is)
 values-written readings (head ∷ source ∷ []) bench is = absurd (none-some bench is)
@@ -143,5 +162,5 @@ taken_is_its_text readings t bench is =
     let small = tested-back (nat_le (length t) most_bench_bytes) _ bench is in
     let values = and_then-back (values_bench readings) (option_and_then (spelled_values readings) (text_lines t)) bench small in
     let ls = and_then-back (spelled_values readings) (text_lines t) values.0 values.1 in
-    text-of-values readings t ls.0 values.0 ls.1 ls.2 ∙ lines-are-ended values.0 ∙ ap ended (values-written readings values.0 bench values.2)
+    text-of-values readings t ls.0 values.0 ls.1 ls.2 ∙ lines-are-ended values.0 ∙ ap ended (values-written readings values.0 bench values.2).0
     ∙ sym (lines-are-ended (bench_values bench))

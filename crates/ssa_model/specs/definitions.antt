@@ -78,6 +78,8 @@ pub mod HistoryRecords
 pub mod RecordText
 -- how a record is read from JSON
 pub mod RecordReading
+-- whether a line of a bench file tells of a subresource
+pub mod ToldParts
 -- the text of a bench file of records
 pub mod RecordedBench
 -- bench files in each format

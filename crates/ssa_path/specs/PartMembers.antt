@@ -19,3 +19,8 @@ part_text status = codes ",\"subresource\":\"status\""
 -- the part of which the value is the name
 abbrev pub told_part : Json → Option Subresource
 told_part v = if is_subresource v then Some status else None
+
+-- the part that members tell in this member of theirs
+abbrev pub part_in : Option Json → Option Subresource
+part_in None = Some main
+part_in (Some v) = told_part v

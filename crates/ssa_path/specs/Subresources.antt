@@ -1,6 +1,7 @@
 -- The parts of an object, as the program tells them.
-use Rattle.std.specs.Prelude.{◌≡◌, List, [], ◌∷◌, Bool, true, ◌&&◌}
+use Rattle.std.specs.Prelude.{◌≡◌, List, [], ◌∷◌, Bool, true, ◌&&◌, Option, Some, None, codes}
 use Rattle.std.specs.List.{filter}
+use Rattle.ssa_model.specs.definitions.Json.{Text}
 use Rattle.ssa_model.specs.definitions.Path.{Path}
 use Rattle.ssa_model.specs.definitions.Parts.{Subresource, main, status, is_path_of}
 use Rattle.ssa_path.specs.Trie.{is_one_of, is_trie, paths}

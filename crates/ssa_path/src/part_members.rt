@@ -1,8 +1,8 @@
 // The member `subresource` of entries, conflicts, labels and records, where a part is reached through one.
-ghost use Rattle.std.specs.Prelude.{◌≡◌, ◌++◌, OnOk};
-ghost use Rattle.std.specs.Option.{option_map};
+ghost use Rattle.std.specs.Prelude.{◌≡◌, ◌++◌, OnOk, codes, option_map};
+ghost use Rattle.ssa_model.specs.definitions.Json.{member_of};
 ghost use Rattle.ssa_json.specs.View.{members_view, view};
-ghost use Rattle.ssa_path.specs.PartMembers.{part_text, told_part, with_part};
+ghost use Rattle.ssa_path.specs.PartMembers.{part_in, part_text, told_part, with_part};
 ghost use Rattle.ssa_path.specs.Subresources.{part_view};
 
 use crate::part::Part;
@@ -44,7 +44,9 @@ pub fn part_of_name(value: &Json) -> Option<Part>
 }
 
 /// The part that members tell, none where their `subresource` is no name of one.
-pub fn part_of_members(members: &Members<Json>) -> Option<Part> {
+pub fn part_of_members(members: &Members<Json>) -> Option<Part>
+    ensures { option_map part_view result ≡ part_in (member_of (codes "subresource") (members_view members.now.entries)) }
+{
     match find_member(members, "subresource") {
         Some(value) => part_of_name(value),
         None => Some(Part::Main),

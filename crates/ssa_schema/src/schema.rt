@@ -2,6 +2,7 @@
 ghost use Rattle.std.specs.Prelude.{true, ◌≡◌, [], IfOk, option_map};
 ghost use Rattle.ssa_model.specs.definitions.Answers.{has_part};
 ghost use Rattle.ssa_model.specs.definitions.Kind.{faults};
+ghost use Rattle.ssa_model.specs.definitions.Parts.{status};
 ghost use Rattle.ssa_model.specs.definitions.Schema.{read_schema};
 ghost use Rattle.ssa_json.specs.View.{view};
 ghost use Rattle.ssa_path.specs.Subresources.{part_view};
@@ -14,7 +15,7 @@ ghost use Rattle.ssa_schema.specs.Schemas.{schema_reading, fault_of, ReadsKind, 
 use crate::body_fault::BodyFault;
 use crate::fault::SchemaFault;
 use crate::fit::faults::value_fault;
-use crate::kind::Kind;
+use crate::kind::{Kind, find_field};
 use crate::read::build::kind_of;
 use crate::read::metadata::with_metadata;
 use crate::read::place;
@@ -53,6 +54,20 @@ impl Model for Schema {
     ghost use Rattle.ssa_model.specs.definitions.Lawful.{IsSchemaKind};
 
     ghost invariant = { λ s. IsSchemaKind (kinds.kind_view s.kind) × (model.read_schema (json_view.view s.json) ≡ Ok (kinds.kind_view s.kind)) };
+}
+
+// Whether objects of the kind have a field `status`.
+fn has_status(kind: &Kind) -> bool
+    ensures { result ≡ has_part (kind_view kind.now) status }
+{
+    match kind {
+        Kind::Record(fields) => find_field(fields, "status").is_some(),
+        Kind::Scalar(_)
+        | Kind::AtomicOf(_)
+        | Kind::Dict(_)
+        | Kind::SetOf(_)
+        | Kind::ItemsOf { .. } => false,
+    }
 }
 
 // The fault that a refusal is.
@@ -121,15 +136,14 @@ impl Schema {
         &self.kind
     }
 
-    /// Whether objects of the schema have the part: all have what is not `status`, and those with a field of this name have
-    /// `status`.
+    /// Whether objects of the schema have the part: all have what is not `status`, and those with a field
+    /// of this name have `status`.
     pub fn has_part(&self, part: Part) -> bool
         ensures { result ≡ has_part self.now.kind (part_view part) }
     {
-        match (part, &self.kind) {
-            (Part::Main, _) => true,
-            (Part::Status, Kind::Record(fields)) => fields.get("status").is_some(),
-            (Part::Status, _) => false,
+        match part {
+            Part::Main => true,
+            Part::Status => has_status(&self.kind),
         }
     }
 

@@ -1,25 +1,56 @@
--- The text of a label's value, written member by member.
-use Rattle.std.proofs.Common.{◌≡◌, [], ◌∷◌, ◌++◌, Bool, true, false, refl}
+-- The value of a label, and its text, written member by member.
+use Rattle.std.proofs.Common.{◌≡◌, [], ◌∷◌, ◌++◌, Bool, true, false, refl, sym, ap, ◌∙◌}
+use Rattle.std.proofs.lemmas.List.{append-nil}
 use Rattle.std.specs.Prelude.{codes}
 use Rattle.std.specs.Str.{is_utf8}
-use Rattle.ssa_model.specs.definitions.Entries.{text_json}
+use Rattle.ssa_model.specs.definitions.Entries.{part_members, text_json}
 use Rattle.ssa_model.specs.definitions.History.{applied, stripped, updated}
-use Rattle.ssa_model.specs.definitions.Json.{Text, scalar, truth, member, no_members, compact}
+use Rattle.ssa_model.specs.definitions.Json.{Text, Members, scalar, truth, object, member, no_members, compact, compact_members}
+use Rattle.ssa_model.specs.definitions.Parts.{Actor, Subresource, main, status}
 use Rattle.ssa_model.specs.definitions.Replies.{label_json}
-use Rattle.ssa_json.specs.MemberTexts.{member_text}
-use Rattle.ssa_json.specs.Writable.{IsOfProgram}
+use Rattle.ssa_model.proofs.Ascii.{ascii-is-utf8}
+use Rattle.ssa_json.specs.MemberTexts.{member_text, name_text}
+use Rattle.ssa_json.specs.Writable.{IsOfProgram, is_below}
 use Rattle.ssa_json.proofs.MemberTexts.{writes-member, writes-object}
-use Rattle.ssa_json.proofs.OfProgram.{empty-of-program, member-of-program}
+use Rattle.ssa_json.proofs.OfProgram.{empty-of-program, member-of-program, text-of-program}
+use Rattle.ssa_path.specs.PartMembers.{part_text}
 
--- an Apply
-pub applied-written : (who : Text) (force : Bool) (at : Text) (t0 : Text) {t1 t2 t3 t4 t5 t6 : Text} → t1 ≡ t0 ++ 123 ∷ []
+-- ---- the member of the part
+
+-- the name of a part's subresource, written behind other members
+subresource-text : member_text true (codes "subresource") (text_json (codes "status")) ≡ part_text status
+unfolding member_text name_text
+subresource-text = refl
+
+-- what is written behind a part is written with its member, if it has one
+writes-part : (s : Subresource) (before : Text) {after whole : Text} (ms : Members) → after ≡ before ++ part_text s
+    → whole ≡ after ++ compact_members true ms → whole ≡ before ++ compact_members true (part_members s ms)
+writes-part main before ms is rest = rest ∙ ap (λ t. t ++ compact_members true ms) (is ∙ append-nil before)
+writes-part status before ms is rest =
+    writes-member before true (codes "subresource") (text_json (codes "status")) ms (is ∙ ap (λ t. before ++ t) (sym subresource-text)) rest
+
+part-of-program : (s : Subresource) → IsOfProgram (object (part_members s no_members))
+part-of-program main = empty-of-program
+part-of-program status =
+    member-of-program (codes "subresource") (text_json (codes "status")) no_members (ascii-is-utf8 (codes "subresource") refl) refl
+    (text-of-program (codes "status") (ascii-is-utf8 (codes "status") refl)) empty-of-program
+
+manager-below : (s : Subresource) → is_below (codes "manager") (part_members s no_members) ≡ true
+manager-below main = refl
+manager-below status = refl
+
+-- ---- an Apply
+
+pub applied-written : (who : Actor) (force : Bool) (at : Text) (t0 : Text) {t1 t2 t3 t4 t5 t6 t7 : Text} → t1 ≡ t0 ++ 123 ∷ []
     → t2 ≡ t1 ++ member_text false (codes "at") (text_json at)
     → t3 ≡ t2 ++ member_text true (codes "do") (text_json (codes "apply"))
     → t4 ≡ t3 ++ member_text true (codes "force") (scalar (truth force))
-    → t5 ≡ t4 ++ member_text true (codes "manager") (text_json who)
-    → t6 ≡ t5 ++ 125 ∷ [] → t6 ≡ t0 ++ compact (label_json (applied who force at))
-applied-written who force at t0 {t1 = t1} {t2 = t2} {t3 = t3} {t4 = t4} {t5 = t5} e0 e1 e2 e3 e4 e5 =
-    let m4 = member (codes "manager") (text_json who) no_members in
+    → t5 ≡ t4 ++ member_text true (codes "manager") (text_json who.name)
+    → t6 ≡ t5 ++ part_text who.part
+    → t7 ≡ t6 ++ 125 ∷ [] → t7 ≡ t0 ++ compact (label_json (applied who force at))
+applied-written who force at t0 {t1 = t1} {t2 = t2} {t3 = t3} {t4 = t4} {t5 = t5} e0 e1 e2 e3 e4 e5 e6 =
+    let m5 = part_members who.part no_members in
+    let m4 = member (codes "manager") (text_json who.name) m5 in
     let m3 = member (codes "force") (scalar (truth force)) m4 in
     let m2 = member (codes "do") (text_json (codes "apply")) m3 in
     let m1 = member (codes "at") (text_json at) m2 in
@@ -27,57 +58,63 @@ applied-written who force at t0 {t1 = t1} {t2 = t2} {t3 = t3} {t4 = t4} {t5 = t5
     (writes-member t1 false (codes "at") (text_json at) m2 e1
     (writes-member t2 true (codes "do") (text_json (codes "apply")) m3 e2
     (writes-member t3 true (codes "force") (scalar (truth force)) m4 e3
-    (writes-member t4 true (codes "manager") (text_json who) no_members e4
-    e5))))
+    (writes-member t4 true (codes "manager") (text_json who.name) m5 e4
+    (writes-part who.part t5 no_members e5
+    e6)))))
 
-pub applied-of-program : (who : Text) (force : Bool) (at : Text)
+pub applied-of-program : (who : Actor) (force : Bool) (at : Text)
     → is_utf8 (codes "at") ≡ true → IsOfProgram (text_json at)
     → is_utf8 (codes "do") ≡ true → IsOfProgram (text_json (codes "apply"))
     → is_utf8 (codes "force") ≡ true → IsOfProgram (scalar (truth force))
-    → is_utf8 (codes "manager") ≡ true → IsOfProgram (text_json who)
+    → is_utf8 (codes "manager") ≡ true → IsOfProgram (text_json who.name)
     → IsOfProgram (label_json (applied who force at))
 applied-of-program who force at n1 v1 n2 v2 n3 v3 n4 v4 =
-    let m4 = member (codes "manager") (text_json who) no_members in
+    let m5 = part_members who.part no_members in
+    let m4 = member (codes "manager") (text_json who.name) m5 in
     let m3 = member (codes "force") (scalar (truth force)) m4 in
     let m2 = member (codes "do") (text_json (codes "apply")) m3 in
-    let m1 = member (codes "at") (text_json at) m2 in
     (member-of-program (codes "at") (text_json at) m2 n1 refl v1
     (member-of-program (codes "do") (text_json (codes "apply")) m3 n2 refl v2
     (member-of-program (codes "force") (scalar (truth force)) m4 n3 refl v3
-    (member-of-program (codes "manager") (text_json who) no_members n4 refl v4
-    empty-of-program))))
+    (member-of-program (codes "manager") (text_json who.name) m5 n4 (manager-below who.part) v4
+    (part-of-program who.part)))))
 
--- an Update
-pub updated-written : (who at : Text) (t0 : Text) {t1 t2 t3 t4 t5 : Text} → t1 ≡ t0 ++ 123 ∷ []
+-- ---- an Update
+
+pub updated-written : (who : Actor) (at : Text) (t0 : Text) {t1 t2 t3 t4 t5 t6 : Text} → t1 ≡ t0 ++ 123 ∷ []
     → t2 ≡ t1 ++ member_text false (codes "at") (text_json at)
     → t3 ≡ t2 ++ member_text true (codes "do") (text_json (codes "update"))
-    → t4 ≡ t3 ++ member_text true (codes "manager") (text_json who)
-    → t5 ≡ t4 ++ 125 ∷ [] → t5 ≡ t0 ++ compact (label_json (updated who at))
-updated-written who at t0 {t1 = t1} {t2 = t2} {t3 = t3} {t4 = t4} e0 e1 e2 e3 e4 =
-    let m3 = member (codes "manager") (text_json who) no_members in
+    → t4 ≡ t3 ++ member_text true (codes "manager") (text_json who.name)
+    → t5 ≡ t4 ++ part_text who.part
+    → t6 ≡ t5 ++ 125 ∷ [] → t6 ≡ t0 ++ compact (label_json (updated who at))
+updated-written who at t0 {t1 = t1} {t2 = t2} {t3 = t3} {t4 = t4} e0 e1 e2 e3 e4 e5 =
+    let m4 = part_members who.part no_members in
+    let m3 = member (codes "manager") (text_json who.name) m4 in
     let m2 = member (codes "do") (text_json (codes "update")) m3 in
     let m1 = member (codes "at") (text_json at) m2 in
     writes-object t0 m1 e0
     (writes-member t1 false (codes "at") (text_json at) m2 e1
     (writes-member t2 true (codes "do") (text_json (codes "update")) m3 e2
-    (writes-member t3 true (codes "manager") (text_json who) no_members e3
-    e4)))
+    (writes-member t3 true (codes "manager") (text_json who.name) m4 e3
+    (writes-part who.part t4 no_members e4
+    e5))))
 
-pub updated-of-program : (who at : Text)
+pub updated-of-program : (who : Actor) (at : Text)
     → is_utf8 (codes "at") ≡ true → IsOfProgram (text_json at)
     → is_utf8 (codes "do") ≡ true → IsOfProgram (text_json (codes "update"))
-    → is_utf8 (codes "manager") ≡ true → IsOfProgram (text_json who)
+    → is_utf8 (codes "manager") ≡ true → IsOfProgram (text_json who.name)
     → IsOfProgram (label_json (updated who at))
 updated-of-program who at n1 v1 n2 v2 n3 v3 =
-    let m3 = member (codes "manager") (text_json who) no_members in
+    let m4 = part_members who.part no_members in
+    let m3 = member (codes "manager") (text_json who.name) m4 in
     let m2 = member (codes "do") (text_json (codes "update")) m3 in
-    let m1 = member (codes "at") (text_json at) m2 in
     (member-of-program (codes "at") (text_json at) m2 n1 refl v1
     (member-of-program (codes "do") (text_json (codes "update")) m3 n2 refl v2
-    (member-of-program (codes "manager") (text_json who) no_members n3 refl v3
-    empty-of-program)))
+    (member-of-program (codes "manager") (text_json who.name) m4 n3 (manager-below who.part) v3
+    (part-of-program who.part))))
 
--- a strip
+-- ---- a strip
+
 pub stripped-written : (t0 : Text) {t1 t2 t3 : Text} → t1 ≡ t0 ++ 123 ∷ []
     → t2 ≡ t1 ++ member_text false (codes "do") (text_json (codes "strip"))
     → t3 ≡ t2 ++ 125 ∷ [] → t3 ≡ t0 ++ compact (label_json stripped)

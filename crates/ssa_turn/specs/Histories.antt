@@ -7,7 +7,8 @@ use Rattle.ssa_model.specs.definitions.Operations.{State}
 pub use Rattle.ssa_model.specs.laws.LineByLine.{preceded}
 use Rattle.ssa_model.specs.definitions.RecordedBench.{HasReadHistory}
 use Rattle.ssa_json.specs.Readings.{readings}
-use Rattle.ssa_merge.specs.States.{state_view}
+use Rattle.ssa_path.specs.Subresources.{part_view}
+use Rattle.ssa_merge.specs.States.{actor, state_view}
 use Rattle.ssa_reverse.specs.Journals.{timeline_of, GoesWith}
 use Rattle.ssa_reverse.specs.Timeline.{Timeline}
 use Rattle.ssa_turn.specs.Dated.{MakesDated}
@@ -17,8 +18,8 @@ use Rattle.ssa_turn.specs.declared.label.Label.TheVariants.{Apply, Update, Strip
 use Rattle.ssa_turn.specs.declared.timeline.Timeline.TheInside.{Inside}
 
 abbrev pub label_view : Label → model.Label
-label_view (Apply at force who) = model.applied (string_bytes who) force at
-label_view (Update at who) = model.updated (string_bytes who) at
+label_view (Apply at force who part) = model.applied (actor (string_bytes who) (part_view part)) force at
+label_view (Update at who part) = model.updated (actor (string_bytes who) (part_view part)) at
 label_view Strip = model.stripped
 
 -- the labels that are lent

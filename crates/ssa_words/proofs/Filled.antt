@@ -1,16 +1,23 @@
--- A parse of one level that finds no fault leaves no row without a value, where each argument is
--- fed: it wants a value, or has one of its own.
-use Rattle.std.proofs.Common.{◌≡◌, ℕ, Bool, cond, true, false, not, zero, suc, refl, sym, List, [], ◌∷◌, ◌++◌, length, Option, Some, None, is_some, true≢false, ◌&&◌}
-use Rattle.std.specs.Prelude.{find, fold, nat_lt, slice_get, encode_utf8, drop}
-use Rattle.std.specs.List.{list_all}
+-- A parse of one level that finds no fault leaves no row without a value and no subresource but
+-- `status`, where each argument is fed: it wants a value, or has one of its own, and the subresource
+-- can be no other.
+use Rattle.std.proofs.Common.{◌≡◌, ◌∙◌, ℕ, Bool, cond, true, false, not, zero, suc, refl, sym, subst, List, [], ◌∷◌, ◌++◌, length, Option, Some, None, is_some, true≢false, ◌&&◌, ◌||◌}
+use Rattle.std.specs.Prelude.{codes, find, fold, nat_lt, slice_get, encode_utf8, drop}
+use Rattle.std.specs.Borrow.{Bor}
+use Rattle.std.specs.List.{list_all, list_any}
 use Rattle.std.specs.Option.{option_map_or}
 use Rattle.std.specs.Str.{bytes_eq, chars}
 use Rattle.clap.specs.Lexer.{long_of, short_of}
-use Rattle.clap.specs.Facts.{unwrap_or_range}
+use Rattle.clap.specs.Facts.{parser_of_value, unwrap_or_range}
 use Rattle.clap.specs.Walk.{Held, Names, Outcome, Row, Rule, Step, Text, Waiting, Walk, action_of, after_flag, after_step, arg_by_id, arg_by_index, arg_by_long, arg_by_short, at_row, attached_value, bundle, bundle_met, bundle_step, default_rows, done, flag_met, idle, is_empty, is_pending, long_met, long_or_other, more_values, most_values, next, option, option_met, plain, plain_word, positional, positional_held, reacted, reading_by, refused, settled, settled_rows, short_met, short_or_plain, subcommand, subcommand_met, subcommand_or_other, takes_several, takes_values, to_positional, trailing, used, used_as, used_by_id, value, values_or_missing, waits, walked, walked_from, with_default, with_values, without, word_met, has_row, option_word}
 use Rattle.clap.specs.Simple.{Shape}
-use Rattle.clap.specs.Kinds.{Kinds, or_else, range_kinds}
-use Rattle.clap.specs.Faults.{bundle_fault, bundle_step_fault, flag_word_fault, flags_fault, long_fault, option_fault, other_fault, positional_fault, react_fault, settle_fault, short_fault, step_fault, turn_fault, use_fault, walk_fault, word_fault}
+use Rattle.clap.specs.Kinds.{Kinds, or_else, range_kinds, value_kinds, values_kinds}
+use Rattle.clap.specs.Values.{same_text}
+use Rattle.clap.specs.Faults.{action_fault, bundle_fault, bundle_step_fault, flag_word_fault, flags_fault, long_fault, option_fault, other_fault, positional_fault, react_fault, repeat_fault, set_fault, settle_fault, short_fault, step_fault, turn_fault, use_fault, values_fault, walk_fault, word_fault}
+use Rattle.std.proofs.lemmas.Slice.Eq.{bytes_eq-Decides}
+use Rattle.clap.specs.declared.builder.value_parser.ValueParser.{ValueParser}
+use Rattle.clap.specs.declared.builder.value_parser.ValueParser.TheVariants as vp
+use Rattle.clap.specs.declared.error.kind.ErrorKind.{ErrorKind}
 use Rattle.clap.specs.declared.builder.value_parser.Reading.{Reading}
 use Rattle.clap.specs.declared.builder.action.ArgAction.{ArgAction}
 use Rattle.clap.specs.declared.builder.action.ArgAction.TheVariants as action
@@ -26,10 +33,21 @@ abbrev pub HasValue : List Text → Type 0
 HasValue [] = ⊥
 HasValue (v ∷ vs) = Unit {0}
 
--- each row has a value
+abbrev pub AllStatus : List Text → Type 0
+AllStatus [] = Unit {0}
+AllStatus (v ∷ vs) = (v ≡ codes "status") × AllStatus vs
+
+-- the subresource has no value but `status`
+abbrev pub Fits : Text → List Text → Type 0
+Fits id values = id ≡ codes "subresource" → AllStatus values
+
+abbrev pub IsRight : Text → List Text → Type 0
+IsRight id values = HasValue values × Fits id values
+
+-- each row has a value, and that of the subresource is `status`
 abbrev pub Filled : List Row → Type 0
 Filled [] = Unit {0}
-Filled (r ∷ rs) = HasValue r.values × Filled rs
+Filled (r ∷ rs) = IsRight r.id r.values × Filled rs
 
 filled_append : (xs ys : List Row) → Filled xs → Filled ys → Filled (xs ++ ys)
 filled_append [] ys f g = g
@@ -39,25 +57,34 @@ value_more : (xs ys : List Text) → HasValue xs → HasValue (xs ++ ys)
 value_more [] ys h = absurd h
 value_more (x ∷ xs) ys h = tt
 
+status_more : (xs ys : List Text) → AllStatus xs → AllStatus ys → AllStatus (xs ++ ys)
+status_more [] ys f g = g
+status_more (x ∷ xs) ys f g = (f.0, status_more xs ys f.1 g)
+
+right_more : (id : Text) (xs ys : List Text) → IsRight id xs → IsRight id ys → IsRight id (xs ++ ys)
+right_more id xs ys f g = (value_more xs ys f.0, λ is. status_more xs ys (f.1 is) (g.1 is))
+
 either_rows : (b : Bool) (xs ys : List Row) → Filled xs → Filled ys → Filled (cond b xs ys)
 either_rows true xs ys f g = f
 either_rows false xs ys f g = g
 
-at_row_filled : (id : Text) (change : Row → List Row) (missing rows : List Row) → ((r : Row) → HasValue r.values → Filled (change r)) → Filled missing
-    → Filled rows → Filled (at_row id change missing rows)
+at_row_filled : (id : Text) (change : Row → List Row) (missing rows : List Row) → ((r : Row) → r.id ≡ id → IsRight r.id r.values → Filled (change r))
+    → Filled missing → Filled rows → Filled (at_row id change missing rows)
 at_row_filled id change missing [] each m f = m
-at_row_filled id change missing (r ∷ rs) each m f =
-    either_rows (bytes_eq r.id id) (change r ++ rs) (r ∷ at_row id change missing rs) (filled_append (change r) rs (each r f.0) f.1)
-    (f.0, at_row_filled id change missing rs each m f.1)
+at_row_filled id change missing (r ∷ rs) each m f = go (at_row_filled id change missing rs each m f.1) (bytes_eq r.id id) refl
+  where
+    go : Filled (at_row id change missing rs) → (b : Bool) → bytes_eq r.id id ≡ b → Filled (cond b (change r ++ rs) (r ∷ at_row id change missing rs))
+    go rest true t = filled_append (change r) rs (each r ((bytes_eq-Decides r.id id).0 t) f.0) f.1
+    go rest false t = (f.0, rest)
 
-with_values_filled : (id : Text) (how : Reading) (s : ValueSource) (values : List Text) (rows : List Row) → HasValue values → Filled rows
+with_values_filled : (id : Text) (how : Reading) (s : ValueSource) (values : List Text) (rows : List Row) → IsRight id values → Filled rows
     → Filled (with_values id how s values rows)
 with_values_filled id how s values rows v f =
     at_row_filled id (more_values s values) (record { id = id; values = values; count = None; source = Some s; reading = how } ∷ []) rows
-    (λ r h. (value_more r.values values h, tt)) (v, tt) f
+    (λ r is h. (right_more r.id r.values values h (subst (λ i. IsRight i values) (sym is) v), tt)) (v, tt) f
 
 without_filled : (id : Text) (rows : List Row) → Filled rows → Filled (without id rows)
-without_filled id rows f = at_row_filled id (λ _. []) [] rows (λ r h. tt) tt f
+without_filled id rows f = at_row_filled id (λ _. []) [] rows (λ r is h. tt) tt f
 
 -- ---- one use of an argument
 
@@ -73,9 +100,88 @@ fed_as action.Help a = true
 fed_as action.Version a = true
 fed_as _ a = false
 
--- the argument wants a value, or has one of its own
+abbrev one_status : List (Bor Text) → Bool
+one_status (name ∷ []) = bytes_eq name.now (codes "status")
+one_status _ = false
+
+-- the argument takes the name `status` alone
+abbrev takes_status : Option ValueParser → Bool
+takes_status (Some (vp.Names names)) = one_status names.now
+takes_status _ = false
+
+abbrev are_none : List Text → Bool
+are_none [] = true
+are_none (v ∷ vs) = false
+
+-- the subresource has no default, and takes the name `status` alone
+abbrev narrow : Rule → Bool
+narrow a = not (bytes_eq a.id (codes "subresource")) || (are_none a.defaults && (not a.ignore_case && takes_status a.parser))
+
+-- the argument wants a value, or has one of its own, and the subresource can be `status` alone
 abbrev pub fed : Rule → Bool
-fed a = fed_as (action_of a) a
+fed a = fed_as (action_of a) a && narrow a
+
+-- ---- the value of the subresource
+
+accepted : (names : List (Bor Text)) (v : Text) → one_status names ≡ true → list_any (λ name. same_text false name.now v) names ≡ true → v ≡ codes "status"
+accepted [] v t e = absurd (true≢false (sym t))
+accepted (name ∷ []) v t e = go (bytes_eq name.now v) refl e
+  where
+    go : (b : Bool) → bytes_eq name.now v ≡ b → (b || false) ≡ true → v ≡ codes "status"
+    go true same e = sym ((bytes_eq-Decides name.now v).0 same) ∙ (bytes_eq-Decides name.now (codes "status")).0 t
+    go false same e = absurd (true≢false (sym e))
+accepted (name ∷ other ∷ names) v t e = absurd (true≢false (sym t))
+
+passed : (b : Bool) (k : ErrorKind) → cond b [] (k ∷ []) ≡ [] → b ≡ true
+passed true k e = refl
+passed false k e = cc
+
+choice_fits : (names : Bor (List (Bor Text))) (values : List Text) → one_status names.now ≡ true → values_kinds false (vp.Names names) values ≡ []
+    → AllStatus values
+choice_fits names [] t e = tt
+choice_fits names (v ∷ vs) t e =
+    let faults = or_else_nil (value_kinds false (vp.Names names) v) _ e in
+    (accepted names.now v t (passed _ _ faults.0), choice_fits names vs t faults.1)
+
+values_fit : (p : Option ValueParser) (values : List Text) → takes_status p ≡ true → values_kinds false (parser_of_value p) values ≡ [] → AllStatus values
+values_fit (Some (vp.Names names)) values t e = choice_fits names values t e
+values_fit None values t e = absurd (true≢false (sym t))
+values_fit (Some vp.String) values t e = absurd (true≢false (sym t))
+values_fit (Some vp.NonEmptyString) values t e = absurd (true≢false (sym t))
+values_fit (Some vp.Bool) values t e = absurd (true≢false (sym t))
+values_fit (Some vp.Boolish) values t e = absurd (true≢false (sym t))
+values_fit (Some vp.Falsey) values t e = absurd (true≢false (sym t))
+values_fit (Some (vp.Signed low high)) values t e = absurd (true≢false (sym t))
+values_fit (Some (vp.Unsigned low high)) values t e = absurd (true≢false (sym t))
+values_fit (Some vp.Float) values t e = absurd (true≢false (sym t))
+values_fit (Some vp.Char) values t e = absurd (true≢false (sym t))
+values_fit (Some (vp.Values names)) values t e = absurd (true≢false (sym t))
+
+-- what is said of the subresource, at an argument that is it
+of_subresource : (a : Rule) → narrow a ≡ true → a.id ≡ codes "subresource" → (are_none a.defaults && (not a.ignore_case && takes_status a.parser)) ≡ true
+of_subresource a n is = under (bytes_eq a.id (codes "subresource")) _ ((bytes_eq-Decides a.id (codes "subresource")).1 is) n
+  where
+    under : (b x : Bool) → b ≡ true → (not b || x) ≡ true → x ≡ true
+    under true x t e = e
+    under false x t e = absurd (true≢false (sym t))
+
+not_true : (b : Bool) → not b ≡ true → b ≡ false
+not_true true e = absurd (true≢false (sym e))
+not_true false e = refl
+
+narrow_fits : (a : Rule) (values : List Text) → narrow a ≡ true → values_fault a values ≡ [] → Fits a.id values
+narrow_fits a values n e is =
+    let is_so = both _ _ (both _ _ (of_subresource a n is)).1 in
+    values_fit a.parser values is_so.1 (subst (λ b. values_kinds b (parser_of_value a.parser) values ≡ []) (not_true a.ignore_case is_so.0) e)
+
+defaults_fit : (a : Rule) → narrow a ≡ true → Fits a.id a.defaults
+defaults_fit a n is = go a.defaults (both _ _ (of_subresource a n is)).0
+  where
+    go : (values : List Text) → are_none values ≡ true → AllStatus values
+    go [] e = tt
+    go (v ∷ vs) e = absurd (true≢false (sym e))
+
+-- ---- the values of a use
 
 no_values : (least most : ℕ) → nat_lt 0 least ≡ true → range_kinds least most 0 ≡ [] → ⊥
 no_values least most lt e = let bad : kind.InvalidValue ∷ [] ≡ [] = rw lt at e in cc
@@ -93,25 +199,32 @@ own_value : (a : Rule) (values : List Text) → not (is_empty a.missing) ≡ tru
 own_value a [] e = some_value a.missing e
 own_value a (v ∷ vs) e = tt
 
-used_as_filled : (x : ArgAction) (a : Rule) (values : List Text) (rows : List Row) → fed_as x a ≡ true
-    → range_kinds (unwrap_or_range a.range).start_inclusive (most_values a) (length values) ≡ [] → Filled rows
-    → Filled (used_as x a.id (reading_by a) (values_or_missing a values) rows)
-used_as_filled action.Set a values rows is e f =
-    with_values_filled a.id (reading_by a) CommandLine (values_or_missing a values) (without a.id rows) (wanted_value a values is e)
-    (without_filled a.id rows f)
-used_as_filled action.SetTrue a values rows is e f =
-    with_values_filled a.id (reading_by a) CommandLine (values_or_missing a values) (without a.id rows) (own_value a values is) (without_filled a.id rows f)
-used_as_filled action.Help a values rows is e f = f
-used_as_filled action.Version a values rows is e f = f
-used_as_filled action.HelpShort a values rows is e f = f
-used_as_filled action.HelpLong a values rows is e f = f
-used_as_filled action.Append a values rows is e f = absurd (true≢false (sym is))
-used_as_filled action.SetFalse a values rows is e f = absurd (true≢false (sym is))
-used_as_filled action.Count a values rows is e f = absurd (true≢false (sym is))
+module _ (again : Bool) (a : Rule) (values : List Text) (rows : List Row) (n : narrow a ≡ true) (f : Filled rows) where
+  set_filled : HasValue (values_or_missing a values) → set_fault again a (values_or_missing a values) rows ≡ []
+      → Filled (with_values a.id (reading_by a) CommandLine (values_or_missing a values) (without a.id rows))
+  set_filled v e =
+      with_values_filled a.id (reading_by a) CommandLine (values_or_missing a values) (without a.id rows)
+      (v, narrow_fits a (values_or_missing a values) n (or_else_nil (repeat_fault again a.id rows) _ e).1) (without_filled a.id rows f)
+
+  used_as_filled : (x : ArgAction) → fed_as x a ≡ true
+      → range_kinds (unwrap_or_range a.range).start_inclusive (most_values a) (length values) ≡ []
+      → action_fault x again a (values_or_missing a values) rows ≡ [] → Filled (used_as x a.id (reading_by a) (values_or_missing a values) rows)
+  used_as_filled action.Set is r e = set_filled (wanted_value a values is r) e
+  used_as_filled action.SetTrue is r e = set_filled (own_value a values is) e
+  used_as_filled action.Help is r e = f
+  used_as_filled action.Version is r e = f
+  used_as_filled action.HelpShort is r e = f
+  used_as_filled action.HelpLong is r e = f
+  used_as_filled action.Append is r e = absurd (true≢false (sym is))
+  used_as_filled action.SetFalse is r e = absurd (true≢false (sym is))
+  used_as_filled action.Count is r e = absurd (true≢false (sym is))
 
 use_filled : (a : Rule) (again : Bool) (values : List Text) (rows : List Row) → fed a ≡ true → use_fault again a values rows ≡ [] → Filled rows
     → Filled (used a values rows)
-use_filled a again values rows is e f = used_as_filled (action_of a) a values rows is (or_else_nil _ _ e).0 f
+use_filled a again values rows is e f =
+    let is_so = both _ _ is in
+    let faults = or_else_nil _ _ e in
+    used_as_filled again a values rows is_so.1 f (action_of a) is_so.0 faults.0 faults.1
 
 abbrev FedIf : Option Rule → Type 0
 FedIf None = Unit {0}
@@ -280,13 +393,15 @@ module _ (s : Shape) (names : Names) (is_fed : list_all fed s.rules ≡ true) wh
 
 -- ---- defaults
 
-defaulted_filled : (values : List Text) (id : Text) (how : Reading) (rows : List Row) → Filled rows → Filled (default_rows id how values rows)
-defaulted_filled [] id how rows f = f
-defaulted_filled (v ∷ vs) id how rows f = with_values_filled id how DefaultValue (v ∷ vs) rows tt f
+defaulted_filled : (values : List Text) (id : Text) (how : Reading) (rows : List Row) → Fits id values → Filled rows → Filled (default_rows id how values rows)
+defaulted_filled [] id how rows fit f = f
+defaulted_filled (v ∷ vs) id how rows fit f = with_values_filled id how DefaultValue (v ∷ vs) rows (tt, fit) f
 
--- with the defaults put in, each row still has a value
-pub defaults_filled : (c : List Rule) (rows : List Row) → Filled rows → Filled (fold with_default rows c)
-defaults_filled [] rows f = f
-defaults_filled (a ∷ c) rows f =
-    defaults_filled c (with_default rows a)
-    (either_rows (has_row a.id rows) rows (default_rows a.id (reading_by a) a.defaults rows) f (defaulted_filled a.defaults a.id (reading_by a) rows f))
+-- with the defaults put in, each row still has a value, and that of the subresource is `status`
+pub defaults_filled : (c : List Rule) (rows : List Row) → list_all fed c ≡ true → Filled rows → Filled (fold with_default rows c)
+defaults_filled [] rows is_fed f = f
+defaults_filled (a ∷ c) rows is_fed f =
+    let is_so = both _ _ is_fed in
+    let fit = defaults_fit a (both _ _ is_so.0).1 in
+    defaults_filled c (with_default rows a) is_so.1
+    (either_rows (has_row a.id rows) rows (default_rows a.id (reading_by a) a.defaults rows) f (defaulted_filled a.defaults a.id (reading_by a) rows fit f))

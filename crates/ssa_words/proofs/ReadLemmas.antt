@@ -1,6 +1,6 @@
 -- What the getters of the matches read, in the rows that the definitions speak of.
 use Rattle.std.proofs.Common.{◌≡◌, ◌∙◌, Bool, cond, true, false, sym, subst, refl, ap, ap₂, List, [], ◌∷◌, Option, Some, None, is_some, option_map}
-use Rattle.std.specs.Prelude.{Box, find, option_and_then, unwrap_or}
+use Rattle.std.specs.Prelude.{Box, IfSome, codes, find, option_and_then, unwrap_or}
 use Rattle.std.specs.Borrow.{Bor}
 use Rattle.std.specs.Box.{box_value}
 use Rattle.std.specs.Str.{bytes_eq}
@@ -14,7 +14,7 @@ use Rattle.clap.specs.declared.parser.matches.ArgMatches.TheViews.{out-SubComman
 use Rattle.clap.specs.declared.parser.matches.SubCommand.{SubCommand}
 use Rattle.clap.specs.declared.parser.matches.ValueSource.{ValueSource}
 use Rattle.clap.proofs.WalkLemmas.{find_row, first_value-rows}
-use Rattle.ssa_words.specs.Calls.{HasTexts, IsWhole, by_words, wanted, was_given}
+use Rattle.ssa_words.specs.Calls.{HasStatusAtMost, HasTexts, IsThrough, IsWhole, by_words, wanted, was_given}
 
 -- ---- a text
 
@@ -31,6 +31,18 @@ text_there o f id e there = go o (ap is_some (text_is o f id e) ∙ there)
     go : (o : Option (Bor Text)) → is_some (option_map (λ s. s.now) o) ≡ true → is_some o ≡ true
     go None e = e
     go (Some s) e = refl
+
+-- the subresource is `status` where a text is read, and none where not
+pub through : (o : Option (Bor Text)) (f : Found) → option_map (λ s. s.now) o ≡ first_value f (codes "subresource") → HasStatusAtMost (rows_of f)
+    → IsThrough (rows_of f) (is_some o)
+through o f e at_most = go o (first_of (codes "subresource") (rows_of f)) (text_is o f (codes "subresource") e) refl at_most
+  where
+    go : (o : Option (Bor Text)) (first : Option Text) → option_map (λ s. s.now) o ≡ first → first_of (codes "subresource") (rows_of f) ≡ first
+        → IfSome first (λ t. t ≡ codes "status") → IsThrough (rows_of f) (is_some o)
+    go None None e is at_most = is
+    go None (Some t) e is at_most = cc
+    go (Some s) None e is at_most = cc
+    go (Some s) (Some t) e is at_most = is ∙ ap (λ (x : Text). Some x) at_most
 
 -- ---- where a value came from
 
@@ -61,7 +73,7 @@ none_found name (w ∷ ws) n = go (none_found name ws n.1) (bytes_eq w.0 name) r
 
 -- no match that is whole names a word that is none of the table's
 pub no_word : (name : Text) (rows : List Row) → NamesNone name wanted → IsWhole name rows → ⊥
-no_word name rows n whole = subst (HasTexts rows) (none_found name wanted n) whole
+no_word name rows n whole = subst (HasTexts rows) (none_found name wanted n) whole.0
 
 module _ {Z : Type 0} where
   -- the subcommand that was met is the one of the matches, with its rows

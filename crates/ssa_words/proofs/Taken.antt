@@ -1,7 +1,7 @@
 -- Where clap finds no fault, the word that it met has a text for each argument that is required or
--- has a default.
+-- has a default, and none for the subresource but `status`.
 use Rattle.std.proofs.Common.{◌≡◌, ◌∙◌, Bool, cond, true, false, not, refl, sym, subst, List, [], ◌∷◌, ◌++◌, Option, Some, None, is_some, true≢false, ◌&&◌, ◌||◌}
-use Rattle.std.specs.Prelude.{find, fold, option_and_then, option_map, slice_get}
+use Rattle.std.specs.Prelude.{IfSome, codes, find, fold, option_and_then, option_map, slice_get}
 use Rattle.std.specs.List.{list_all, list_any}
 use Rattle.std.specs.Option.{option_map_or}
 use Rattle.std.specs.Str.{bytes_eq}
@@ -15,8 +15,8 @@ use Rattle.clap.specs.Faults.{defaults_fault, entered_fault, fault_of, level_fau
 use Rattle.clap.specs.declared.parser.matches.ValueSource.TheVariants.{DefaultValue}
 use Rattle.clap.specs.declared.builder.value_parser.Reading.{Reading}
 use Rattle.clap.proofs.WalkLemmas.{both}
-use Rattle.ssa_words.specs.Calls.{HasTexts, IsWhole, IsWholeMatch, has_texts, wanted}
-use Rattle.ssa_words.proofs.Filled.{Filled, HasValue, defaults_filled, fed, or_else_nil, settle_filled, walk_filled}
+use Rattle.ssa_words.specs.Calls.{HasStatusAtMost, HasTexts, IsWhole, IsWholeMatch, has_texts, wanted}
+use Rattle.ssa_words.proofs.Filled.{AllStatus, Filled, HasValue, defaults_filled, fed, or_else_nil, settle_filled, walk_filled}
 use Rattle.std.proofs.lemmas.Bool.{or_parts, or_right}
 
 -- ---- the text of a row
@@ -32,8 +32,22 @@ text_of_row id (r ∷ rs) e f = go (λ t. text_of_row id rs t f.1) (bytes_eq r.i
     go : (is_some (find (λ x. bytes_eq x.id id) rs) ≡ true → is_some (first_of id rs) ≡ true) → (b : Bool)
         → is_some (cond b (Some r) (find (λ x. bytes_eq x.id id) rs)) ≡ true
         → is_some (option_and_then (λ x. slice_get x.values 0) (cond b (Some r) (find (λ x. bytes_eq x.id id) rs))) ≡ true
-    go rest true e = text_of_values r.values f.0
+    go rest true e = text_of_values r.values f.0.0
     go rest false e = rest e
+
+-- the text of the subresource is `status`, where there is one
+status_at_most : (rows : List Row) → Filled rows → HasStatusAtMost rows
+status_at_most [] f = tt
+status_at_most (r ∷ rs) f = go (status_at_most rs f.1) (bytes_eq r.id (codes "subresource")) refl
+  where
+    first : (values : List Text) → AllStatus values → IfSome (slice_get values 0) (λ t. t ≡ codes "status")
+    first [] f = tt
+    first (v ∷ vs) f = f.0
+
+    go : HasStatusAtMost rs → (b : Bool) → bytes_eq r.id (codes "subresource") ≡ b
+        → IfSome (option_and_then (λ x. slice_get x.values 0) (cond b (Some r) (find (λ x. bytes_eq x.id (codes "subresource")) rs))) (λ t. t ≡ codes "status")
+    go rest true t = first r.values (f.0.1 ((bytes_eq-Decides r.id (codes "subresource")).0 t))
+    go rest false t = rest
 
 given_row : (id : Text) (rows : List Row) → is_given id rows ≡ true → is_some (find (λ r. bytes_eq r.id id) rows) ≡ true
 given_row id rows e = go (find (λ r. bytes_eq r.id id) rows) e
@@ -163,6 +177,16 @@ last_check false true x e = cc
 last_check false false true e = cc
 last_check false false false e = (refl, refl)
 
+-- where no fault is found on a level, each row has a value, and that of the subresource is `status`
+level_filled : (s : Shape) (words : List Text) → list_all fed s.rules ≡ true → level_fault s [] nothing_held words false [] ≡ []
+    → Filled (rows_after s.rules [] words)
+level_filled s words is_fed e =
+    let end = (walk s.rules [] nothing_held words).held in
+    let one = or_else_nil (walk_fault s [] (walk_from nothing_held) words) _ e in
+    let two = or_else_nil (settle_fault s.rules s.args_override_self end) _ one.1 in
+    let filled = walk_filled s [] is_fed (walk_from nothing_held) words one.0 tt in
+    defaults_filled s.rules (settled s.rules end).rows is_fed (settle_filled s.rules s.args_override_self is_fed end two.0 filled)
+
 -- where no fault is found on a level, each argument that is wanted has a text
 pub level_text : (s : Shape) (words : List Text) (id : Text) → list_all fed s.rules ≡ true → level_fault s [] nothing_held words false [] ≡ []
     → wants id s.rules ≡ true → is_some (first_of id (rows_after s.rules [] words)) ≡ true
@@ -172,9 +196,7 @@ level_text s words id is_fed e w =
     let one = or_else_nil (walk_fault s [] (walk_from nothing_held) words) _ e in
     let two = or_else_nil (settle_fault s.rules again end) _ one.1 in
     let three = or_else_nil (defaults_fault (settled s.rules end).rows s.rules) _ two.1 in
-    let filled = walk_filled s [] is_fed (walk_from nothing_held) words one.0 tt in
-    let all_filled = defaults_filled s.rules (settled s.rules end).rows (settle_filled s.rules again is_fed end two.0 filled) in
-    text_of_row id (finished s.rules end) (by_wants (requires_it id s.rules) refl w (last_check _ _ _ three.1).1) all_filled
+    text_of_row id (finished s.rules end) (by_wants (requires_it id s.rules) refl w (last_check _ _ _ three.1).1) (level_filled s words is_fed e)
   where
     under : (n x : Bool) → (not (n && false) && x) ≡ false → x ≡ false
     under true x e = e
@@ -207,7 +229,8 @@ each_text (id ∷ ids) c rows each e =
     let here = both _ _ e in rw (each id here.0, each_text ids c rows each here.1) refl
 
 whole : (s : Shape) (words : List Text) → is_good s ≡ true → level_fault s [] nothing_held words false [] ≡ [] → IsWhole s.name (rows_after s.rules [] words)
-whole s words good e = go (find (λ w. bytes_eq w.0 s.name) wanted) (both _ _ good).1
+whole s words good e =
+    (go (find (λ w. bytes_eq w.0 s.name) wanted) (both _ _ good).1, status_at_most (rows_after s.rules [] words) (level_filled s words (both _ _ good).0 e))
   where
     go : (o : Option (Text × List Text)) → are_wanted s.rules o ≡ true → HasTexts (rows_after s.rules [] words) o
     go None w = absurd (true≢false (sym w))

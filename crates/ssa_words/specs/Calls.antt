@@ -1,5 +1,5 @@
 -- Which call the words are, and why others are none.
-use Rattle.std.specs.Prelude.{◌≡◌, Bool, List, [], Option, Some, None, codes, find, option_and_then, is_some, true, false, ◌∷◌}
+use Rattle.std.specs.Prelude.{◌≡◌, Bool, List, [], Option, Some, None, codes, find, option_and_then, is_some, true, false, ◌∷◌, IfSome}
 use Rattle.std.specs.List.{list_all}
 use Rattle.std.specs.Str.{bytes_eq}
 use Rattle.clap.specs.Words.{IsAmong, Row, Text, fault_of, first_of, subcommand_of}
@@ -7,7 +7,7 @@ use Rattle.clap.specs.declared.error.kind.ErrorKind.{ErrorKind}
 use Rattle.clap.specs.declared.error.kind.ErrorKind.TheVariants as kind
 use Rattle.clap.specs.declared.parser.matches.ValueSource.{ValueSource}
 use Rattle.clap.specs.declared.parser.matches.ValueSource.TheVariants.{CommandLine}
-use Rattle.ssa_words.specs.Table.{table}
+use Rattle.ssa_words.specs.Table.{Choice, IsStatus, table}
 use Rattle.ssa_words.specs.declared.call.Call.{Call}
 use Rattle.ssa_words.specs.declared.call.Call.TheVariants.{Init, Apply, Update, Strip, Undo, Redo, Show, Owners, Log, Session}
 use Rattle.ssa_words.specs.declared.usage.Usage.{Usage}
@@ -48,9 +48,13 @@ abbrev pub HasTexts : List Row → Option (Text × List Text) → Type 0
 HasTexts rows None = ⊥
 HasTexts rows (Some w) = has_texts rows w.1 ≡ true
 
--- it is a word of the table, and each of its texts is there
+-- no subresource but `status` is matched
+abbrev pub HasStatusAtMost : List Row → Type 0
+HasStatusAtMost rows = IfSome (first_of (codes "subresource") rows) (λ t. t ≡ codes "status")
+
+-- it is a word of the table, each of its texts is there, and no subresource but `status`
 abbrev pub IsWhole : Text → List Row → Type 0
-IsWhole name rows = HasTexts rows (find (λ w. bytes_eq w.0 name) wanted)
+IsWhole name rows = HasTexts rows (find (λ w. bytes_eq w.0 name) wanted) × HasStatusAtMost rows
 
 abbrev pub IsWholeMatch : Option (Text × List Row) → Type 0
 IsWholeMatch None = ⊥
@@ -58,17 +62,22 @@ IsWholeMatch (Some p) = IsWhole p.0 p.1
 
 -- ---- calls
 
+-- the subresource is `status`, or none is matched
+abbrev pub IsThrough : List Row → Bool → Type 0
+IsThrough rows true = HasText rows (codes "subresource") (codes "status")
+IsThrough rows false = first_of (codes "subresource") rows ≡ None
+
 -- The call is the word of this name with what was matched for it.
 abbrev pub IsCallOf : Text → List Row → Call → Type 0
 IsCallOf name rows (Init schema object bench) = (name ≡ codes "init") × HasText rows (codes "SCHEMA") schema.now
     × HasText rows (codes "OBJECT") object.now × HasText rows (codes "BENCH") bench.now
 IsCallOf name rows (Apply bench file at manager status force) = (name ≡ codes "apply") × HasText rows (codes "BENCH") bench.now
     × HasText rows (codes "FILE") file.now × HasText rows (codes "at") at.now
-    × HasText rows (codes "field-manager") manager.now × (status ≡ was_given (codes "subresource") rows)
+    × HasText rows (codes "field-manager") manager.now × IsThrough rows status
     × (force ≡ was_given (codes "force-conflicts") rows)
 IsCallOf name rows (Update bench file at manager status) = (name ≡ codes "update") × HasText rows (codes "BENCH") bench.now
     × HasText rows (codes "FILE") file.now × HasText rows (codes "at") at.now
-    × HasText rows (codes "field-manager") manager.now × (status ≡ was_given (codes "subresource") rows)
+    × HasText rows (codes "field-manager") manager.now × IsThrough rows status
 IsCallOf name rows (Strip bench) = (name ≡ codes "strip") × HasText rows (codes "BENCH") bench.now
 IsCallOf name rows (Undo bench) = (name ≡ codes "undo") × HasText rows (codes "BENCH") bench.now
 IsCallOf name rows (Redo bench) = (name ≡ codes "redo") × HasText rows (codes "BENCH") bench.now
@@ -83,9 +92,11 @@ abbrev pub IsMatched : Option (Text × List Row) → Call → Type 0
 IsMatched None call = ⊥
 IsMatched (Some p) call = IsCallOf p.0 p.1 call
 
--- clap takes the words for the table, and the call is what it matches
+-- clap takes the words for the table, whose one subresource is `status`, and the call is what it
+-- matches
 abbrev pub IsCall : List Text → Call → Type 0
-IsCall words call = (fault_of table words ≡ []) × IsMatched (subcommand_of table words) call
+IsCall words call = (names : Choice) × IsStatus names × (fault_of (table names) words ≡ [])
+    × IsMatched (subcommand_of (table names) words) call
 
 abbrev pub is_asked : ErrorKind → Bool
 is_asked kind.DisplayHelp = true
@@ -102,4 +113,5 @@ IsUsageOf k OutOfMemory = Unit {0}
 -- memory aside
 abbrev pub IsUsage : List Text → Usage → Type 0
 IsUsage words OutOfMemory = Unit {0}
-IsUsage words usage = (k : ErrorKind) × IsAmong k (fault_of table words) × IsUsageOf k usage
+IsUsage words usage = (names : Choice) × IsStatus names × (k : ErrorKind)
+    × IsAmong k (fault_of (table names) words) × IsUsageOf k usage

@@ -1,9 +1,10 @@
 -- The table of the program's words, as clap reads a command: the code builds its command from it,
 -- and the contracts speak of it.
 use Rattle.std.specs.Prelude.{◌≡◌, ◌∷◌, ◌++◌, List, [], Some, false, true, codes}
+use Rattle.std.specs.Borrow.{Bor}
 use Rattle.clap.specs.Words.{App, Rule, Shape, Text, app_of, new_rule}
 use Rattle.clap.specs.Simple.{new_shape}
-use Rattle.clap.specs.Walk.{rule_of}
+use Rattle.clap.specs.Walk.{rule_of, texts}
 use Rattle.clap.specs.declared.builder.arg.Arg.{Arg}
 use Rattle.clap.specs.declared.builder.command.Command.{Command}
 use Rattle.clap.specs.declared.builder.command.Command.TheViews.{out-Command}
@@ -30,12 +31,20 @@ field_manager = record (new_rule (codes "field-manager")) {
   defaults = codes "kubectl" ∷ [];
 }
 
--- `--subresource status`
-abbrev pub subresource : Rule
-subresource = record (new_rule (codes "subresource")) {
+-- the names that an argument's value may be, as the code lends them to clap
+abbrev pub Choice : Type 0
+Choice = Bor (List (Bor Text))
+
+-- the name is `status`, wherever its text lies
+abbrev pub IsStatus : Choice → Type 0
+IsStatus names = texts names.now ≡ codes "status" ∷ []
+
+-- `--subresource NAME`, with one of these names
+abbrev pub subresource : Choice → Rule
+subresource names = record (new_rule (codes "subresource")) {
   long = Some (codes "subresource");
   value_names = 1;
-  parser = Some (Names (codes "status" ∷ []));
+  parser = Some (Names names);
 }
 
 -- `--NAME`, given or not
@@ -55,15 +64,19 @@ word name rules = record { top = record (new_shape name) { rules = rules }; subs
 abbrev pub init : App
 init = word (codes "init") (place (codes "SCHEMA") ∷ place (codes "OBJECT") ∷ bench ∷ [])
 
--- a word with a bench, a file, a moment, a manager and a subresource, and with more
-abbrev pub writing : Text → List Rule → App
-writing name more = word name (bench ∷ file ∷ at ∷ field_manager ∷ subresource ∷ more)
+-- a word with a bench, a file and a moment, and with more
+abbrev pub timed : Text → List Rule → App
+timed name more = word name (bench ∷ file ∷ at ∷ more)
 
-abbrev pub apply : App
-apply = writing (codes "apply") (flag (codes "force-conflicts") ∷ [])
+-- the same with a manager and a subresource
+abbrev pub writing : Choice → Text → List Rule → App
+writing names name more = timed name (field_manager ∷ subresource names ∷ more)
 
-abbrev pub update : App
-update = writing (codes "update") []
+abbrev pub apply : Choice → App
+apply names = writing names (codes "apply") (flag (codes "force-conflicts") ∷ [])
+
+abbrev pub update : Choice → App
+update names = writing names (codes "update") []
 
 abbrev pub show : App
 show = word (codes "show") (bench ∷ flag (codes "show-managed-fields") ∷ [])
@@ -91,8 +104,8 @@ abbrev pub with_words : List Shape → App
 with_words words = record { top = record bare.top { is_leaf = false }; subs = words }
 
 -- the words that write, those that move in the history, and those that tell
-abbrev pub writes : List Shape
-writes = init.top ∷ apply.top ∷ update.top ∷ []
+abbrev pub writes : Choice → List Shape
+writes names = init.top ∷ (apply names).top ∷ (update names).top ∷ []
 
 abbrev pub moves : List Shape
 moves = (of_bench (codes "strip")).top ∷ (of_bench (codes "undo")).top ∷ (of_bench (codes "redo")).top ∷ []
@@ -100,8 +113,9 @@ moves = (of_bench (codes "strip")).top ∷ (of_bench (codes "undo")).top ∷ (of
 abbrev pub tells : List Shape
 tells = show.top ∷ owners.top ∷ (of_bench (codes "log")).top ∷ (of_bench (codes "session")).top ∷ []
 
-abbrev pub table : App
-table = with_words (writes ++ moves ++ tells)
+-- the program's words, where the subresources have these names
+abbrev pub table : Choice → App
+table names = with_words (writes names ++ moves ++ tells)
 
 -- the code's argument is this one
 abbrev pub IsArg : Rule → Arg → Type 0

@@ -1,11 +1,13 @@
 //! Worked rows of the table.
-ghost use Rattle.ssa_words.specs.WordRows.{ApplyIsByKubectl, ApplyIsByManager, HelpIsAsked, OthersAreRefused, ShowIsRead};
+ghost use Rattle.ssa_words.specs.WordRows.{ApplyIsByKubectl, ApplyIsByManager, HelpIsAsked, OtherSubresourcesAreRefused, OthersAreRefused, ShowIsRead, StatusIsRead, Wherever};
 
 /// What `clap`'s definitions make of a few words, worked by computation.
 pub fn words_are_worked()
-    ensures kubectl { ApplyIsByKubectl }
-    ensures manager { ApplyIsByManager }
-    ensures show { ShowIsRead }
-    ensures others { OthersAreRefused }
-    ensures help { HelpIsAsked }
+    ensures kubectl { Wherever ApplyIsByKubectl }
+    ensures manager { Wherever ApplyIsByManager }
+    ensures status { Wherever StatusIsRead }
+    ensures subresources { Wherever OtherSubresourcesAreRefused }
+    ensures show { Wherever ShowIsRead }
+    ensures others { Wherever OthersAreRefused }
+    ensures help { Wherever HelpIsAsked }
 {}

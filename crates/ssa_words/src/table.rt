@@ -46,15 +46,15 @@ fn field_manager<'a>(alloc: Global) -> Arg<'a>
         .help("The manager that gives the command")
 }
 
-// The subresource through which the command acts. There is one.
-fn subresource<'a>(alloc: Global) -> Arg<'a>
-    ensures { spec.IsArg spec.subresource result }
+// The subresource that the command acts through, by one of these names.
+fn subresource<'a>(alloc: Global, names: &'a [&'a str]) -> Arg<'a>
+    ensures { spec.IsArg (spec.subresource names.entry) result }
 {
     Arg::new(alloc, "subresource")
         .long("subresource")
         .value_name("NAME")
-        .value_parser(ValueParser::Names(&["status"]))
-        .help("The subresource that it acts through")
+        .value_parser(ValueParser::Names(names))
+        .help("The subresource that the command acts through")
 }
 
 // `--name`, given or not.
@@ -77,33 +77,47 @@ fn init<'a>(alloc: Global) -> Result<Command<'a>, AllocError>
         .arg(bench(alloc))
 }
 
-// A word with a bench, a file, a moment, a manager and a subresource.
-fn writing<'a>(alloc: Global, name: &'a str, about: &'a str) -> Result<Command<'a>, AllocError>
-    ensures { IfOk result (spec.IsCommand (spec.writing name.entry.now [])) }
+// A word with a bench, a file and a moment.
+fn timed<'a>(alloc: Global, name: &'a str, about: &'a str) -> Result<Command<'a>, AllocError>
+    ensures { IfOk result (spec.IsCommand (spec.timed name.entry.now [])) }
 {
     Command::new(alloc, name)
         .about(about)
         .arg(bench(alloc))?
         .arg(file(alloc))?
-        .arg(at(alloc))?
-        .arg(field_manager(alloc))?
-        .arg(subresource(alloc))
+        .arg(at(alloc))
 }
 
-fn apply<'a>(alloc: Global) -> Result<Command<'a>, AllocError>
-    ensures { IfOk result (spec.IsCommand spec.apply) }
+// The same with a manager and a subresource.
+fn writing<'a>(
+    alloc: Global,
+    subresources: &'a [&'a str],
+    name: &'a str,
+    about: &'a str,
+) -> Result<Command<'a>, AllocError>
+    ensures { IfOk result (spec.IsCommand (spec.writing subresources.entry name.entry.now [])) }
 {
-    writing(alloc, "apply", "Applies the object of a file")?.arg(flag(
+    timed(alloc, name, about)?
+        .arg(field_manager(alloc))?
+        .arg(subresource(alloc, subresources))
+}
+
+fn apply<'a>(alloc: Global, subresources: &'a [&'a str]) -> Result<Command<'a>, AllocError>
+    ensures { IfOk result (spec.IsCommand (spec.apply subresources.entry)) }
+{
+    let about = "Applies the object of a file";
+    writing(alloc, subresources, "apply", about)?.arg(flag(
         alloc,
         "force-conflicts",
         "Takes over what other managers own",
     ))
 }
 
-fn update<'a>(alloc: Global) -> Result<Command<'a>, AllocError>
-    ensures { IfOk result (spec.IsCommand spec.update) }
+fn update<'a>(alloc: Global, subresources: &'a [&'a str]) -> Result<Command<'a>, AllocError>
+    ensures { IfOk result (spec.IsCommand (spec.update subresources.entry)) }
 {
-    writing(alloc, "update", "Updates the object to that of a file")
+    let about = "Updates the object to that of a file";
+    writing(alloc, subresources, "update", about)
 }
 
 fn show<'a>(alloc: Global) -> Result<Command<'a>, AllocError>
@@ -160,28 +174,32 @@ fn with_word<'a>(
     program.subcommand(word?)
 }
 
-fn writes<'a>(alloc: Global) -> Result<Command<'a>, AllocError>
-    ensures { IfOk result (spec.IsCommand (spec.with_words spec.writes)) }
+fn writes<'a>(alloc: Global, subresources: &'a [&'a str]) -> Result<Command<'a>, AllocError>
+    ensures { IfOk result (spec.IsCommand (spec.with_words (spec.writes subresources.entry))) }
 {
     let with_init = with_word(bare(alloc), init(alloc));
-    let with_apply = with_word(with_init, apply(alloc));
-    with_word(with_apply, update(alloc))
+    let with_apply = with_word(with_init, apply(alloc, subresources));
+    with_word(with_apply, update(alloc, subresources))
 }
 
-fn moves<'a>(alloc: Global) -> Result<Command<'a>, AllocError>
-    ensures { IfOk result (spec.IsCommand (spec.with_words (spec.writes ++ spec.moves))) }
+fn moves<'a>(alloc: Global, subresources: &'a [&'a str]) -> Result<Command<'a>, AllocError>
+    ensures { IfOk result (spec.IsCommand
+        (spec.with_words (spec.writes subresources.entry ++ spec.moves))) }
 {
     let strip = of_bench(alloc, "strip", "Strips the object of its managers");
     let undo = of_bench(alloc, "undo", "Takes the last command back");
     let redo = of_bench(alloc, "redo", "Carries out again what was taken back");
-    let with_strip = with_word(writes(alloc), strip);
+    let with_strip = with_word(writes(alloc, subresources), strip);
     let with_undo = with_word(with_strip, undo);
     with_word(with_undo, redo)
 }
 
-/// The program with all its words.
-pub(crate) fn program<'a>(alloc: Global) -> Result<Command<'a>, AllocError>
-    ensures { IfOk result (spec.IsCommand spec.table) }
+/// The program with all its words, where the subresources have these names.
+pub(crate) fn program<'a>(
+    alloc: Global,
+    subresources: &'a [&'a str],
+) -> Result<Command<'a>, AllocError>
+    ensures { IfOk result (spec.IsCommand (spec.table subresources.entry)) }
 {
     let log = of_bench(alloc, "log", "Tells the commands of the history");
     let session = of_bench(
@@ -189,7 +207,7 @@ pub(crate) fn program<'a>(alloc: Global) -> Result<Command<'a>, AllocError>
         "session",
         "Holds a session over standard input and output",
     );
-    let with_show = with_word(moves(alloc), show(alloc));
+    let with_show = with_word(moves(alloc, subresources), show(alloc));
     let with_owners = with_word(with_show, owners(alloc));
     let with_log = with_word(with_owners, log);
     with_word(with_log, session)

@@ -1,7 +1,8 @@
 //! Reads the words behind the program's own name.
 ghost use Rattle.std.specs.Prelude.{◌≡◌, ◌∷◌, [], MatchResult, Some, codes, is_some, map, true};
 ghost use Rattle.clap.specs.Words.{first_of, found_of, rows_of, subcommand_rows_of};
-ghost use Rattle.ssa_words.specs.Calls.{IsCall, IsCallOf, IsMatched, IsUsage, IsWhole, IsWholeMatch, has_texts, was_given};
+ghost use Rattle.ssa_words.specs.Calls.{HasStatusAtMost, IsCall, IsCallOf, IsMatched, IsThrough, IsUsage, IsWhole, IsWholeMatch, has_texts, was_given};
+ghost use Rattle.ssa_words.specs.Table.{IsStatus};
 
 use crate::call::Call;
 use crate::table::program;
@@ -16,10 +17,17 @@ pub fn read_words<'a, S: AsStr>(alloc: Global, words: &'a [S]) -> Result<Call<'a
     ensures { MatchResult result (IsCall (map S.text words.entry.now))
         (IsUsage (map S.text words.entry.now)) }
 {
-    match program(alloc)?.try_get_matches_from(words) {
+    match program(alloc, subresources())?.try_get_matches_from(words) {
         Ok(matches) => Ok(call(&matches)),
         Err(fault) => Err(Usage::of(alloc, fault)),
     }
+}
+
+// The subresources that a command may act through: there is one.
+fn subresources<'a>() -> &'a [&'a str]
+    ensures { IsStatus result }
+{
+    &["status"]
 }
 
 // The call that was matched.
@@ -86,6 +94,14 @@ fn is_given(found: &ArgMatches<'_>, name: &str) -> bool
     }
 }
 
+// Whether the command acts through `status`, the one subresource that is matched.
+fn is_through_status(found: &ArgMatches<'_>) -> bool
+    requires { HasStatusAtMost (rows_of (found_of found.now)) }
+    ensures { IsThrough (rows_of (found_of found.now)) result }
+{
+    found.get_str("subresource").is_some()
+}
+
 fn init<'a>(found: &ArgMatches<'a>) -> Call<'a>
     requires { has_texts (rows_of (found_of found.now))
         (codes "SCHEMA" ∷ codes "OBJECT" ∷ codes "BENCH" ∷ []) ≡ true }
@@ -99,8 +115,9 @@ fn init<'a>(found: &ArgMatches<'a>) -> Call<'a>
 }
 
 fn apply<'a>(found: &ArgMatches<'a>) -> Call<'a>
-    requires { has_texts (rows_of (found_of found.now))
+    requires texts { has_texts (rows_of (found_of found.now))
         (codes "BENCH" ∷ codes "FILE" ∷ codes "at" ∷ codes "field-manager" ∷ []) ≡ true }
+    requires status { HasStatusAtMost (rows_of (found_of found.now)) }
     ensures { IsCallOf (codes "apply") (rows_of (found_of found.now)) result }
 {
     Call::Apply {
@@ -108,14 +125,15 @@ fn apply<'a>(found: &ArgMatches<'a>) -> Call<'a>
         file: text(found, "FILE"),
         at: text(found, "at"),
         manager: text(found, "field-manager"),
-        status: is_given(found, "subresource"),
+        status: is_through_status(found),
         force: is_given(found, "force-conflicts"),
     }
 }
 
 fn update<'a>(found: &ArgMatches<'a>) -> Call<'a>
-    requires { has_texts (rows_of (found_of found.now))
+    requires texts { has_texts (rows_of (found_of found.now))
         (codes "BENCH" ∷ codes "FILE" ∷ codes "at" ∷ codes "field-manager" ∷ []) ≡ true }
+    requires status { HasStatusAtMost (rows_of (found_of found.now)) }
     ensures { IsCallOf (codes "update") (rows_of (found_of found.now)) result }
 {
     Call::Update {
@@ -123,7 +141,7 @@ fn update<'a>(found: &ArgMatches<'a>) -> Call<'a>
         file: text(found, "FILE"),
         at: text(found, "at"),
         manager: text(found, "field-manager"),
-        status: is_given(found, "subresource"),
+        status: is_through_status(found),
     }
 }
 

@@ -1,16 +1,18 @@
 //! The line of the state that a bench file shows first, and those of its records, each taken on the bench that the lines before it made.
-ghost use Rattle.std.specs.Prelude.{◌≡◌, ◌≤◌, ◌<◌, IfOk, length, true};
+ghost use Rattle.std.specs.Prelude.{◌≡◌, ◌||◌, ◌≤◌, ◌<◌, IfOk, length, not, true};
 ghost use Rattle.ssa_model.specs.definitions.Answers.{lone_state};
 ghost use Rattle.ssa_model.specs.definitions.BenchText.{whole_object};
-ghost use Rattle.ssa_model.specs.definitions.History.{appended, past_len};
+ghost use Rattle.ssa_model.specs.definitions.Formats.{can_tell_state, tells_parts};
+ghost use Rattle.ssa_model.specs.definitions.History.{appended, past_len, present};
 ghost use Rattle.ssa_model.specs.definitions.Json.{compact, same_text};
 ghost use Rattle.ssa_model.specs.definitions.Limits.{most_past};
 ghost use Rattle.ssa_model.specs.definitions.MemberNames.{has_rising_names};
+ghost use Rattle.ssa_model.specs.definitions.ToldParts.{has_subresource, tells_subresource};
 ghost use Rattle.ssa_model.specs.laws.LineByLine.{at_place, preceded, shown_in};
 ghost use Rattle.ssa_model.specs.laws.RecordedBenches.{present_in};
 ghost use Rattle.ssa_json.specs.Readings.{readings};
 ghost use Rattle.ssa_json.specs.View.{view};
-ghost use Rattle.ssa_file.specs.Heads.{head_view};
+ghost use Rattle.ssa_file.specs.Heads.{format_view, head_view};
 ghost use Rattle.ssa_bench.specs.Taking.{IsTaken, MovesBy, TellsMove};
 
 use super::Bench;
@@ -28,7 +30,9 @@ use ssa_told::subresources::tells_subresource;
 use std::alloc::{AllocError, Global};
 
 // Whether a line of the format can tell the command and the record.
-fn can_tell(format: RecordFormat, command: &Json, record: &Json) -> bool {
+fn can_tell(format: RecordFormat, command: &Json, record: &Json) -> bool
+    ensures { result ≡ (tells_parts (format_view format) || not (has_subresource (view command.now) || tells_subresource (view record.now))) }
+{
     match format {
         RecordFormat::Records => {
             command.member("subresource").is_none() && !tells_subresource(record)
@@ -67,7 +71,9 @@ impl Bench {
     }
 
     // Whether the format can tell the managers of the present state.
-    fn is_of_format(&self, format: RecordFormat) -> bool {
+    fn is_of_format(&self, format: RecordFormat) -> bool
+        ensures { result ≡ can_tell_state (format_view format) (present self.now.timeline) }
+    {
         match format {
             RecordFormat::Records => self.has_main_managers(),
             RecordFormat::Parts => true,
@@ -82,13 +88,16 @@ impl Bench {
         line: FileLine,
     ) -> Result<Bench, LoadFault>
         requires { line.text.items ≡ compact (view line.value) }
-        ensures taken { IsTaken result (present_in readings schema (view line.value)) }
+        ensures taken { IsTaken result (present_in readings (format_view format) schema (view line.value)) }
         ensures lone { IfOk result (λ b. b.timeline ≡ lone_state b.timeline.first) }
     {
         let FileLine { value, text } = line;
         match Bench::new(alloc, schema, value) {
             Ok(bench) => {
-                if bench.is_of_format(format) && bench.is_present_line(alloc, &text)? {
+                if !bench.is_of_format(format) {
+                    return Err(LoadFault::BenchText);
+                }
+                if bench.is_present_line(alloc, &text)? {
                     Ok(bench)
                 } else {
                     Err(LoadFault::BenchText)
@@ -107,7 +116,7 @@ impl Bench {
     ) -> Result<Step, LoadFault>
         requires { has_rising_names (view value.now) ≡ true }
         ensures same { self.new ≡ self.old }
-        ensures told { TellsMove self.old result (view value.now) }
+        ensures told { TellsMove (format_view format) self.old result (view value.now) }
     {
         recorded_moves();
         self.is_valid();
@@ -141,7 +150,7 @@ impl Bench {
         requires names { has_rising_names (view line.now.value) ≡ true }
         requires first { past_len self.old.timeline ≡ 0 }
         requires few { length self.old.timeline.later < most_past }
-        ensures { MovesBy preceded self.old self.new result (view line.now.value) }
+        ensures { MovesBy (format_view format) preceded self.old self.new result (view line.now.value) }
     {
         let step = self.told_move(alloc, format, &line.value)?;
         self.timeline.precede(step.boxed(alloc)?)?;
@@ -157,7 +166,7 @@ impl Bench {
     ) -> Result<(), LoadFault>
         requires names { has_rising_names (view line.now.value) ≡ true }
         requires few { past_len self.old.timeline < most_past }
-        ensures { MovesBy appended self.old self.new result (view line.now.value) }
+        ensures { MovesBy (format_view format) appended self.old self.new result (view line.now.value) }
     {
         self.timeline.place_is_within();
         let step = self.told_move(alloc, format, &line.value)?;

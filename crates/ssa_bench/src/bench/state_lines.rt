@@ -2,6 +2,7 @@
 ghost use Rattle.std.specs.Prelude.{◌≡◌, ◌&&◌, ◌<◌, IfOk};
 ghost use Rattle.ssa_model.specs.definitions.Answers.{lone_state};
 ghost use Rattle.ssa_model.specs.definitions.BenchText.{first_json, step_json};
+ghost use Rattle.ssa_model.specs.definitions.Formats.{is_main_state};
 ghost use Rattle.ssa_model.specs.definitions.History.{past_len, present};
 ghost use Rattle.ssa_model.specs.definitions.Json.{compact, same_text};
 ghost use Rattle.ssa_model.specs.definitions.Limits.{most_past};
@@ -26,7 +27,9 @@ use std::alloc::{AllocError, Global};
 
 impl Bench {
     // Whether no manager of the present state acts through a subresource.
-    pub(crate) fn has_main_managers(&self) -> bool {
+    pub(crate) fn has_main_managers(&self) -> bool
+        ensures { result ≡ is_main_state (present self.now.timeline) }
+    {
         are_main_managers(&self.timeline.present().managers)
     }
 
@@ -53,7 +56,10 @@ impl Bench {
         let FileLine { value, text } = line;
         match Bench::new(alloc, schema, object_in(alloc, value)) {
             Ok(bench) => {
-                if bench.has_main_managers() && bench.is_first_line(alloc, &text)? {
+                if !bench.has_main_managers() {
+                    return Err(LoadFault::BenchText);
+                }
+                if bench.is_first_line(alloc, &text)? {
                     Ok(bench)
                 } else {
                     Err(LoadFault::BenchText)
@@ -90,7 +96,10 @@ impl Bench {
         match state_in(alloc, &self.schema, object_in(alloc, value)) {
             Ok(state) => {
                 let step = TakenStep { label, state };
-                if step.is_main() && self.is_next_line(alloc, &step, &text)? {
+                if !step.is_main() {
+                    return Err(LoadFault::BenchText);
+                }
+                if self.is_next_line(alloc, &step, &text)? {
                     Ok(step)
                 } else {
                     Err(LoadFault::BenchText)

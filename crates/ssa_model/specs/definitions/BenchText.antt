@@ -11,11 +11,14 @@ pub data Format : Type 0 where
   states : Format
   -- the present object, and records that lead from it to the other states
   records : Format
+  -- the same, with the subresources of managers
+  parts : Format
 
 -- the number that stands in a file's first line
 abbrev pub format_number : Format → ℕ
 format_number states = 1
 format_number records = 2
+format_number parts = 3
 
 abbrev pub line : Json → Text
 line v = compact v ++ 10 ∷ []

@@ -8,7 +8,7 @@ use Rattle.ssa_model.specs.definitions.Entries.{version_in}
 use Rattle.ssa_model.specs.definitions.Operations.{State}
 use Rattle.ssa_model.specs.definitions.History.{Label, Step, Timeline, Bench, present, past_len, future_len}
 use Rattle.ssa_model.specs.definitions.Replies.{number_json, label_json}
-use Rattle.ssa_model.specs.definitions.BenchText.{records, format_number, line, whole_object}
+use Rattle.ssa_model.specs.definitions.BenchText.{Format, format_number, line, whole_object}
 use Rattle.ssa_model.specs.definitions.Record.{record_of}
 use Rattle.ssa_model.specs.definitions.RecordText.{record_json}
 use Rattle.ssa_model.specs.definitions.RecordReading.{HasReadPaths}
@@ -16,9 +16,9 @@ use Rattle.ssa_model.specs.definitions.RecordReading.{HasReadPaths}
 -- ---- the lines
 
 -- the format, and how many commands can be redone and undone
-abbrev pub record_head : ℕ → ℕ → Json
-record_head past future =
-    object (member (codes "format") (number_json (format_number records))
+abbrev pub record_head : Format → ℕ → ℕ → Json
+record_head f past future =
+    object (member (codes "format") (number_json (format_number f))
     (member (codes "future") (number_json future) (member (codes "past") (number_json past) no_members)))
 
 -- a command, and the record of the move from one state to another across it
@@ -49,12 +49,12 @@ recorded_lines bench =
     let t = bench.timeline in
     bench.schema.source ∷ whole_object bench (present t) ∷ past_lines bench t.first (past_steps t) ++ future_lines bench (present t) (future_steps t)
 
--- with the head before them
-abbrev pub recorded_values : Bench → List Json
-recorded_values bench = record_head (past_len bench.timeline) (future_len bench.timeline) ∷ recorded_lines bench
+-- with the head of a format before them
+abbrev pub recorded_values : Format → Bench → List Json
+recorded_values f bench = record_head f (past_len bench.timeline) (future_len bench.timeline) ∷ recorded_lines bench
 
-abbrev pub recorded_text : Bench → Text
-recorded_text bench = flat_map line (recorded_values bench)
+abbrev pub recorded_text : Format → Bench → Text
+recorded_text f bench = flat_map line (recorded_values f bench)
 
 -- ---- paths that are read
 

@@ -1,14 +1,12 @@
 -- Worked examples of the parts of an object: commands through the subresource `status`.
-use Rattle.std.specs.Prelude.{◌≡◌, ℕ, List, [], ◌∷◌, ◌++◌, codes, false, map}
+use Rattle.std.specs.Prelude.{◌≡◌, ℕ, List, [], ◌∷◌, codes, false, map}
 use Rattle.ssa_model.specs.definitions.Json.{Text, Json, object, Members, no_members, member}
-use Rattle.ssa_model.specs.definitions.PathMap.{paths}
 use Rattle.ssa_model.specs.definitions.Body.{flat}
-use Rattle.ssa_model.specs.definitions.Parts.{Subresource, main, status, Actor}
+use Rattle.ssa_model.specs.definitions.Parts.{status, Actor}
 use Rattle.ssa_model.specs.definitions.Table.{applies, updates, key_of}
 use Rattle.ssa_model.specs.definitions.Objects.{identity_of}
 use Rattle.ssa_model.specs.definitions.History.{Bench, present}
-use Rattle.ssa_model.specs.definitions.Answers as answers
-use Rattle.ssa_model.specs.definitions.Answers.{Command, apply, update, show, run, Reply}
+use Rattle.ssa_model.specs.definitions.Answers.{Command, apply, update, show, run}
 use Rattle.ssa_model.specs.definitions.Replies.{reply_text}
 use Rattle.ssa_model.specs.examples.Sample.{main_by, status_kind, status_schema, number_json}
 use Rattle.ssa_model.specs.examples.Rows.{sample_object, with_replicas, m1, new_bench}

@@ -6,7 +6,7 @@ use Rattle.ssa_model.specs.definitions.Readings.{Readings}
 use Rattle.ssa_model.specs.definitions.Replies.{label_json}
 use Rattle.ssa_model.specs.definitions.History.{Bench, present}
 use Rattle.ssa_model.specs.definitions.Answers.{undo}
-use Rattle.ssa_model.specs.definitions.BenchText.{line, whole_object}
+use Rattle.ssa_model.specs.definitions.BenchText.{Format, records, parts, line, whole_object}
 use Rattle.ssa_model.specs.definitions.BenchFile.{IsLabel, IsValidBench}
 use Rattle.ssa_model.specs.definitions.MemberNames.{has_distinct_names, has_rising_names}
 use Rattle.ssa_model.specs.definitions.Operations.{State}
@@ -63,24 +63,27 @@ applied_bench = after (one_apply ∷ [])
 -- after an apply, and after its undo
 abbrev pub RecordedFilesAreWritten : Type 0
 RecordedFilesAreWritten =
-    (recorded_text applied_bench ≡ codes "{\"format\":2,\"future\":0,\"past\":1}" ++ feed ++ sample_text ++ feed ++ applied_object ++ feed ++ undo_line ++ feed)
-    × (recorded_text (after (one_apply ∷ undo ∷ []))
-    ≡ codes "{\"format\":2,\"future\":1,\"past\":0}" ++ feed ++ sample_text ++ feed
+    (recorded_text parts applied_bench ≡ codes "{\"format\":3,\"future\":0,\"past\":1}" ++ feed ++ sample_text ++ feed ++ applied_object ++ feed ++ undo_line ++ feed)
+    × (recorded_text parts (after (one_apply ∷ undo ∷ []))
+    ≡ codes "{\"format\":3,\"future\":1,\"past\":0}" ++ feed ++ sample_text ++ feed
     ++ codes "{\"apiVersion\":\"example.com/v1\",\"kind\":\"App\",\"metadata\":{\"name\":\"web\"}}" ++ feed ++ with_command redo_record ++ feed)
 
 -- ---- what is taken
 
 -- the bench is taken from its values, and what is taken has its text
-abbrev pub is_taken_again : Bench → Bool
-is_taken_again bench =
-    elim (recorded_bench file_readings (recorded_values bench)) [ Some taken ↦ same_text (recorded_text taken) (recorded_text bench) | None ↦ false ]
+abbrev pub is_taken_again : Format → Bench → Bool
+is_taken_again f bench =
+    elim (recorded_bench file_readings (recorded_values f bench)) [ Some taken ↦ same_text (recorded_text f taken) (recorded_text f bench) | None ↦ false ]
 
+-- after an apply and after its undo, in both formats of records
 abbrev pub RecordedValuesAreTaken : Type 0
-RecordedValuesAreTaken = (is_taken_again applied_bench ≡ true) × (is_taken_again (after (one_apply ∷ undo ∷ [])) ≡ true)
+RecordedValuesAreTaken =
+    (is_taken_again parts applied_bench ≡ true) × (is_taken_again parts (after (one_apply ∷ undo ∷ [])) ≡ true)
+    × (is_taken_again records applied_bench ≡ true) × (is_taken_again records (after (one_apply ∷ undo ∷ [])) ≡ true)
 
 -- what is asked of a bench so that the values of its file of records are shallow is met
 abbrev pub ShallowFileIsMet : Type 0
-ShallowFileIsMet = IsValidBench (readings_of (recorded_values filed)) filed × (has_distinct_names filed.schema.source ≡ true)
+ShallowFileIsMet = IsValidBench (readings_of (recorded_values parts filed)) filed × (has_distinct_names filed.schema.source ≡ true)
 
 -- ---- damaged lines
 
@@ -94,7 +97,7 @@ one_gone name = list_of (list_of (string_json name ∷ string_json (codes "Apply
 -- meet what the laws of one line ask
 abbrev pub RecordedMovesAreMet : Type 0
 RecordedMovesAreMet =
-    let readings = readings_of (recorded_values filed) in
+    let readings = readings_of (recorded_values parts filed) in
     let v = filed.timeline.first in
     let w = applied_step.state in
     let own = record_line filed applied_step.label v w in
@@ -112,8 +115,11 @@ reads_alone t j = record {
 }
 
 -- the number of the fault of a text that is read as this value, in the state after the apply
+abbrev pub text_number_in : Format → Text → Json → Option ℕ
+text_number_in f t j = option_map move_fault_number (line_fault (reads_alone t j) f applied_bench (present applied_bench.timeline) t)
+
 abbrev pub text_number : Text → Json → Option ℕ
-text_number t j = option_map move_fault_number (line_fault (reads_alone t j) applied_bench (present applied_bench.timeline) t)
+text_number = text_number_in parts
 
 abbrev pub record_number : Json → Option ℕ
 record_number d = text_number (compact (moved_value d)) (moved_value d)
@@ -171,7 +177,7 @@ file_number head t j =
     move_fault_number (recorded_fault readings (flat_map line opening ++ t ++ feed))
 
 abbrev pub record_file_number : ℕ → Json → ℕ
-record_file_number past d = file_number (record_head past 0) (compact (moved_value d)) (moved_value d)
+record_file_number past d = file_number (record_head parts past 0) (compact (moved_value d)) (moved_value d)
 
 -- a path that isn't there; a manager that would own an absent path; an element with a blank; a head that tells of a command more,
 -- whose line is missing; members in another order; a head that tells of too many commands, in front of a record that doesn't fit
@@ -181,7 +187,7 @@ DamagedFilesAreTold =
     × (record_file_number 1 (record_with nothing (list_of (spec_path ∷ [])) nothing nothing nothing) ≡ 71)
     × (record_file_number 1 (record_with nothing (list_of (path_of_texts (codes "v: 1" ∷ []) ∷ [])) m1_gone nothing nothing) ≡ 70)
     × (record_file_number 2 undo_value ≡ 70)
-    × (file_number (record_head 1 0) (with_command other_order) (moved_value undo_value) ≡ 70)
+    × (file_number (record_head parts 1 0) (with_command other_order) (moved_value undo_value) ≡ 70)
     × (record_file_number 1001 (record_with nothing (list_of (spec_path ∷ [])) nothing nothing nothing) ≡ 70)
 
 abbrev pub is_text_taken : List Json → Text → Bool
@@ -190,8 +196,8 @@ is_text_taken vs t = is_some (recorded_bench_in (readings_of vs) t)
 -- the file after the apply is taken; one whose head tells of a command more, and one that goes on behind its last line, are not
 abbrev pub OtherFilesAreRefused : Type 0
 OtherFilesAreRefused =
-    let vs = recorded_values applied_bench in
-    let others = record_head 2 0 ∷ sample_schema.source ∷ whole_object applied_bench (present applied_bench.timeline) ∷ moved_value undo_value ∷ [] in
-    (is_text_taken vs (recorded_text applied_bench) ≡ true)
+    let vs = recorded_values parts applied_bench in
+    let others = record_head parts 2 0 ∷ sample_schema.source ∷ whole_object applied_bench (present applied_bench.timeline) ∷ moved_value undo_value ∷ [] in
+    (is_text_taken vs (recorded_text parts applied_bench) ≡ true)
     × (is_text_taken others (flat_map line others) ≡ false)
-    × (is_text_taken vs (recorded_text applied_bench ++ codes "{}") ≡ false)
+    × (is_text_taken vs (recorded_text parts applied_bench ++ codes "{}") ≡ false)

@@ -9,7 +9,7 @@ use Rattle.ssa_model.specs.definitions.Schema.{read_schema}
 use Rattle.ssa_model.specs.definitions.Objects.{members_of_value}
 use Rattle.ssa_model.specs.definitions.Readings.{Readings}
 use Rattle.ssa_model.specs.definitions.History.{Bench}
-use Rattle.ssa_model.specs.definitions.BenchText.{head_json, first_json, step_json, bench_values}
+use Rattle.ssa_model.specs.definitions.BenchText.{Format, head_json, first_json, step_json, bench_values}
 use Rattle.ssa_model.specs.definitions.BenchFile.{IsValidBench}
 use Rattle.ssa_model.specs.definitions.RecordedBench.{recorded_values}
 use Rattle.ssa_model.specs.examples.FileRows.{readings_of, filed}
@@ -31,11 +31,11 @@ abbrev pub DistinctBenchIsShallow : Type 0
 DistinctBenchIsShallow = (readings : Readings) (bench : Bench) → IsValidBench readings bench → has_distinct_names bench.schema.source ≡ true
     → All IsShallow (bench_values bench)
 
--- all values of the file of records of such a bench
+-- all values of a file of records of such a bench
 abbrev pub RecordedBenchIsShallow : Type 0
 RecordedBenchIsShallow =
-    (readings : Readings) (bench : Bench) → IsValidBench readings bench → has_distinct_names bench.schema.source ≡ true
-    → All IsShallow (recorded_values bench)
+    (readings : Readings) (f : Format) (bench : Bench) → IsValidBench readings bench → has_distinct_names bench.schema.source ≡ true
+    → All IsShallow (recorded_values f bench)
 
 -- ---- where a name stands twice
 

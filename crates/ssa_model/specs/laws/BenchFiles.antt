@@ -14,9 +14,10 @@ use Rattle.ssa_model.specs.definitions.Operations.{State}
 use Rattle.ssa_model.specs.definitions.History.{Label, applied, updated, stripped, Step, Bench, is_manager_name, with_timeline}
 use Rattle.ssa_model.specs.definitions.Answers.{bench_of, file_state}
 use Rattle.ssa_model.specs.definitions.Lines.{split_lines}
-use Rattle.ssa_model.specs.definitions.BenchText.{head_of, first_json, step_json, bench_values, bench_text}
+use Rattle.ssa_model.specs.definitions.BenchText.{states, head_of, first_json, step_json, bench_values, bench_text}
 use Rattle.ssa_model.specs.definitions.Valid.{shared_managers}
 use Rattle.ssa_model.specs.definitions.BenchFile.{IsSpelled, IsValidBench}
+use Rattle.ssa_model.specs.definitions.Formats.{can_tell_label, can_tell_state, CanTell}
 
 -- ---- the values of the lines
 
@@ -58,8 +59,8 @@ abbrev pub head_in : Json → Option Head
 head_in v =
     option_and_then
     (λ place. option_and_then
-    (λ states. given_if (is_written_as (head_of place states) v && (nat_lt place states && nat_le states (most_past + 1)))
-    (record { place = place; states = states }))
+    (λ count. given_if (is_written_as (head_of place count) v && (nat_lt place count && nat_le count (most_past + 1)))
+    (record { place = place; states = count }))
     (number_in (member_at (codes "states") v)))
     (number_in (member_at (codes "place") v))
 
@@ -71,7 +72,8 @@ object_in v = value_in (member_at (codes "object") v)
 
 -- the bench of the first state
 abbrev pub lone_in : Readings → Schema → Json → Option Bench
-lone_in readings schema v = elim (bench_of readings schema (object_in v)) [ Ok bench ↦ given_if (is_written_as (first_json bench) v) bench | Err f ↦ None ]
+lone_in readings schema v =
+    elim (bench_of readings schema (object_in v)) [ Ok bench ↦ given_if (is_written_as (first_json bench) v && can_tell_state states bench.timeline.first) bench | Err f ↦ None ]
 
 -- the label that a command's word and members say
 abbrev pub said_label : Json → Label
@@ -97,7 +99,7 @@ keeps_order before after = pointwise same_manager (shared_managers before after)
 abbrev pub step_with : Bench → State → Json → Label → State → Option Step
 step_with bench before v label state =
     let s : Step = record { label = label; state = state } in
-    given_if (is_written_as (step_json bench s) v && keeps_order before.table state.table) s
+    given_if (is_written_as (step_json bench s) v && (keeps_order before.table state.table && (can_tell_label states label && can_tell_state states state))) s
 
 abbrev pub step_in : Readings → Bench → State → Json → Option Step
 step_in readings bench before v =
@@ -132,11 +134,12 @@ bench_in readings t = if nat_le (length t) most_bench_bytes then option_and_then
 
 -- ---- the laws
 
--- the text of a valid bench, each line of which is read, is taken as that bench
+-- the text of a valid bench of which the format can tell, each line of which is read, is taken as that bench
 abbrev pub BenchFilesAreTaken : Type 0
 BenchFilesAreTaken =
     (readings : Readings) (bench : Bench)
-    → IsValidBench readings bench → length (bench_text bench) ≤ most_bench_bytes → All (IsSpelled readings) (bench_values bench)
+    → IsValidBench readings bench → CanTell states bench.timeline → length (bench_text bench) ≤ most_bench_bytes
+    → All (IsSpelled readings) (bench_values bench)
     → bench_in readings (bench_text bench) ≡ Some bench
 
 -- a text that is taken is the text of what it is taken as

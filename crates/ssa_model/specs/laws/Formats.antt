@@ -5,7 +5,7 @@ use Rattle.ssa_model.specs.definitions.Json.{Text, Json}
 use Rattle.ssa_model.specs.definitions.Lines.{whole_lines}
 use Rattle.ssa_model.specs.definitions.Readings.{Readings}
 use Rattle.ssa_model.specs.definitions.History.{Bench}
-use Rattle.ssa_model.specs.definitions.BenchText.{Format, states, records}
+use Rattle.ssa_model.specs.definitions.BenchText.{Format, states}
 use Rattle.ssa_model.specs.definitions.BenchFile.{IsValidBench}
 use Rattle.ssa_model.specs.definitions.RecordedBench.{HasReadHistory}
 use Rattle.ssa_model.specs.definitions.Formats.{IsFile}
@@ -21,7 +21,7 @@ pub data FileHead : Type 0 where
 
 abbrev pub head_format : FileHead → Format
 head_format (of_states head) = states
-head_format (of_records counts) = records
+head_format (of_records counts) = counts.format
 
 -- the first head, or else the second
 abbrev pub either_head : Option FileHead → Option FileHead → Option FileHead
@@ -34,24 +34,24 @@ file_head v = either_head (option_map of_states (head_in v)) (option_map of_reco
 
 -- ---- the bench of a text
 
--- the bench of the values of all lines, in a format
-abbrev pub format_bench : Readings → Format → List Json → Option Bench
-format_bench readings states vs = values_bench readings vs
-format_bench readings records vs = recorded_bench readings vs
+-- the bench of the values of all lines, by what the first of them says
+abbrev pub head_bench : Readings → FileHead → List Json → Option Bench
+head_bench readings (of_states head) vs = values_bench readings vs
+head_bench readings (of_records counts) vs = recorded_bench readings vs
 
 abbrev pub file_bench : Readings → List Json → Option Bench
 file_bench readings [] = None
-file_bench readings (v ∷ vs) = option_and_then (λ head. format_bench readings (head_format head) (v ∷ vs)) (file_head v)
+file_bench readings (v ∷ vs) = option_and_then (λ head. head_bench readings head (v ∷ vs)) (file_head v)
 
 abbrev pub file_bench_in : Readings → Text → Option Bench
 file_bench_in readings t = if nat_le (length t) most_bench_bytes then option_and_then (file_bench readings) (values_of readings t) else None
 
 -- ---- why a text is refused
 
--- the fault of the first faulty of these lines: each line of whole states is no text of one
-abbrev pub format_fault : Readings → Format → List Text → MoveFault
-format_fault readings states ts = no_move_text
-format_fault readings records ts = texts_fault readings ts
+-- the fault of the first faulty of these lines: each faulty line of whole states is no text of one
+abbrev pub head_fault : Readings → FileHead → List Text → MoveFault
+head_fault readings (of_states head) ts = no_move_text
+head_fault readings (of_records counts) ts = texts_fault readings ts
 
 -- what the first of these lines says
 abbrev pub first_head : Readings → List Text → Option FileHead
@@ -59,7 +59,7 @@ first_head readings [] = None
 first_head readings (t ∷ ts) = option_and_then file_head (spelled_value readings t)
 
 abbrev pub lines_file_fault : Readings → List Text → MoveFault
-lines_file_fault readings ts = elim (first_head readings ts) [ Some head ↦ format_fault readings (head_format head) ts | None ↦ no_move_text ]
+lines_file_fault readings ts = elim (first_head readings ts) [ Some head ↦ head_fault readings head ts | None ↦ no_move_text ]
 
 -- the fault of a text that is refused: that of its first line that has one
 abbrev pub file_fault : Readings → Text → MoveFault

@@ -8,8 +8,9 @@ use Rattle.ssa_model.specs.definitions.Operations.{State}
 use Rattle.ssa_model.specs.definitions.Readings.{Readings}
 use Rattle.ssa_model.specs.definitions.Schema.{Schema}
 use Rattle.ssa_model.specs.definitions.History.{Label, Step, Timeline, Bench, appended, moved_to, present, with_timeline}
+use Rattle.ssa_model.specs.definitions.BenchText.{Format}
 use Rattle.ssa_model.specs.laws.BenchFiles.{Head, spelled_value, schema_in, lone_in, step_in}
-use Rattle.ssa_model.specs.laws.RecordedBenches.{present_in, lines_within, MoveFault, no_move_text, value_move}
+use Rattle.ssa_model.specs.laws.RecordedBenches.{Counts, present_in, lines_within, MoveFault, no_move_text, told_value}
 use Rattle.ssa_model.specs.laws.Formats.{FileHead, of_states, of_records, file_head, file_bench_in, file_fault}
 
 -- ---- what stands next
@@ -81,21 +82,21 @@ module _ (readings : Readings) where
   abbrev pub with_part : {X : Type 0} → (Json → Option X) → (X → Reader) → Reader
   with_part take go = with_value (λ v. after_part go (take v))
 
-  -- so many lines, each a move from the present state
-  abbrev pub along : Move → (Bench → Reader) → ℕ → Bench → Reader
-  along move go zero b = go b
-  along move go (suc n) b = with_value (λ v. after_move (λ m. along move go n (moved_by move b m)) (value_move readings b (present b.timeline) v))
+  -- so many lines, each a move from the present state, in a format
+  abbrev pub along : Format → Move → (Bench → Reader) → ℕ → Bench → Reader
+  along f move go zero b = go b
+  along f move go (suc n) b = with_value (λ v. after_move (λ m. along f move go n (moved_by move b m)) (told_value readings f b (present b.timeline) v))
 
   abbrev pub ended_with : Bench → Reader
   ended_with b xs room = at_last b (next_value room xs)
 
   -- the future behind the present state, and the end
-  abbrev pub on_from : ℕ → ℕ → Bench → Reader
-  on_from past future b = along appended (λ last. ended_with (at_place past last)) future (at_place past b)
+  abbrev pub on_from : Counts → Bench → Reader
+  on_from counts b = along counts.format appended (λ last. ended_with (at_place counts.past last)) counts.future (at_place counts.past b)
 
   -- the past back from the present state, the future and the end
-  abbrev pub moves_from : ℕ → ℕ → Bench → Reader
-  moves_from past future b = along preceded (on_from past future) past b
+  abbrev pub moves_from : Counts → Bench → Reader
+  moves_from counts b = along counts.format preceded (on_from counts) counts.past b
 
   -- so many lines, each a state behind the present one
   abbrev pub steps_from : (Bench → Reader) → ℕ → Bench → Reader
@@ -109,12 +110,12 @@ module _ (readings : Readings) where
   -- the bench of the state that stands behind the schema: of the first one, or of the present one
   abbrev pub shown_in : FileHead → Schema → Json → Option Bench
   shown_in (of_states head) = lone_in readings
-  shown_in (of_records counts) = present_in readings
+  shown_in (of_records counts) = present_in readings counts.format
 
   -- what stands behind that state: all later ones, or the records
   abbrev pub rest_from : FileHead → Bench → Reader
   rest_from (of_states head) = later_from head
-  rest_from (of_records counts) = moves_from counts.past counts.future
+  rest_from (of_records counts) = moves_from counts
 
   abbrev pub file_from : Reader
   file_from = with_part file_head (λ head. with_part schema_in (λ schema. with_part (shown_in head schema) (rest_from head)))

@@ -10,8 +10,8 @@ use Rattle.ssa_model.specs.definitions.Operations.{State}
 use Rattle.ssa_model.specs.definitions.Replies.{label_json}
 use Rattle.ssa_model.specs.definitions.History.{Label, Step, Bench, with_timeline}
 use Rattle.ssa_model.specs.definitions.Answers.{bench_of, file_state}
-use Rattle.ssa_model.specs.definitions.BenchText.{records, whole_object}
-use Rattle.ssa_model.specs.definitions.Formats.{IsFile}
+use Rattle.ssa_model.specs.definitions.BenchText.{Format, records, parts, format_number, whole_object}
+use Rattle.ssa_model.specs.definitions.Formats.{can_tell_state, can_tell_line, IsFile}
 use Rattle.ssa_model.specs.definitions.Objects.{is_identity}
 use Rattle.ssa_model.specs.definitions.Lines.{whole_lines}
 use Rattle.ssa_model.specs.definitions.Valid.{IsValidState}
@@ -23,23 +23,35 @@ use Rattle.ssa_model.specs.laws.BenchFiles.{spelled_value, values_of, given_if, 
 
 -- ---- the head and the present object
 
--- how many commands can be undone and redone, no more than a bench keeps
+-- the format, and how many commands can be undone and redone, no more than a bench keeps
 pub record Counts : Type 0 where
+  pub format : Format
   pub past : ℕ
   pub future : ℕ
+
+-- the format of records with this number
+abbrev pub record_format : ℕ → Option Format
+record_format n = if n == format_number records then Some records else (if n == format_number parts then Some parts else None)
+
+abbrev pub format_in : Json → Option Format
+format_in v = option_and_then record_format (number_in (member_at (codes "format") v))
 
 abbrev pub counts_in : Json → Option Counts
 counts_in v =
     option_and_then
+    (λ f. option_and_then
     (λ past. option_and_then
-    (λ future. given_if (is_written_as (record_head past future) v && nat_le (past + future) most_past) (record { past = past; future = future }))
+    (λ future. given_if (is_written_as (record_head f past future) v && nat_le (past + future) most_past)
+    (record { format = f; past = past; future = future }))
     (number_in (member_at (codes "future") v)))
-    (number_in (member_at (codes "past") v))
+    (number_in (member_at (codes "past") v)))
+    (format_in v)
 
--- the bench of the present state alone
-abbrev pub present_in : Readings → Schema → Json → Option Bench
-present_in readings schema v =
-    elim (bench_of readings schema v) [ Ok bench ↦ given_if (is_written_as (whole_object bench bench.timeline.first) v) bench | Err f ↦ None ]
+-- the bench of the present state alone, of whose managers the format can tell
+abbrev pub present_in : Readings → Format → Schema → Json → Option Bench
+present_in readings f schema v =
+    elim (bench_of readings schema v)
+    [ Ok bench ↦ given_if (is_written_as (whole_object bench bench.timeline.first) v && can_tell_state f bench.timeline.first) bench | Err e ↦ None ]
 
 -- ---- the lines
 
@@ -61,15 +73,20 @@ module _ (readings : Readings) (bench : Bench) where
   abbrev pub move_in : State → Json → Option (Label × State)
   move_in v j = option_and_then (λ label. option_and_then (move_to v j label) (led_state v j)) (label_in readings (value_in (member_at (codes "command") j)))
 
+module _ (readings : Readings) (f : Format) (bench : Bench) where
+  -- the same in a format, which can tell of the line
+  abbrev pub told_move : State → Json → Option (Label × State)
+  told_move v j = if can_tell_line f j then move_in readings bench v j else None
+
   -- from a state back along the lines, in front of these steps: the first state, and the steps from it on
   abbrev pub past_in : State → List Json → List Step → Option (State × List Step)
   past_in v [] later = Some (v, later)
-  past_in v (j ∷ js) later = option_and_then (λ m. past_in m.1 js (record { label = m.0; state = v } ∷ later)) (move_in v j)
+  past_in v (j ∷ js) later = option_and_then (λ m. past_in m.1 js (record { label = m.0; state = v } ∷ later)) (told_move v j)
 
   -- from a state on along the lines
   abbrev pub future_in : State → List Json → Option (List Step)
   future_in v [] = Some []
-  future_in v (j ∷ js) = option_and_then (λ m. option_map (λ ss. record { label = m.0; state = m.1 } ∷ ss) (future_in m.1 js)) (move_in v j)
+  future_in v (j ∷ js) = option_and_then (λ m. option_map (λ ss. record { label = m.0; state = m.1 } ∷ ss) (future_in m.1 js)) (told_move v j)
 
 -- ---- the bench of a text
 
@@ -83,13 +100,13 @@ with_moves counts now js past future =
 abbrev pub lines_bench : Readings → Counts → Bench → List Json → Option Bench
 lines_bench readings counts now js =
     let v = now.timeline.first in
-    option_and_then (λ past. option_and_then (with_moves counts now js past) (future_in readings now v (drop counts.past js)))
-    (past_in readings now v (take counts.past js) [])
+    option_and_then (λ past. option_and_then (with_moves counts now js past) (future_in readings counts.format now v (drop counts.past js)))
+    (past_in readings counts.format now v (take counts.past js) [])
 
 abbrev pub recorded_bench : Readings → List Json → Option Bench
 recorded_bench readings (head ∷ source ∷ now ∷ js) =
     option_and_then
-    (λ counts. option_and_then (λ schema. option_and_then (λ bench. lines_bench readings counts bench js) (present_in readings schema now)) (schema_in source))
+    (λ counts. option_and_then (λ schema. option_and_then (λ bench. lines_bench readings counts bench js) (present_in readings counts.format schema now)) (schema_in source))
     (counts_in head)
 recorded_bench readings _ = None
 
@@ -125,9 +142,14 @@ module _ (readings : Readings) (bench : Bench) where
   abbrev pub value_move : State → Json → Result (Label × State) MoveFault
   value_move v j = elim (move_in readings bench v j) [ Some m ↦ Ok m | None ↦ Err (refused_fault readings j) ]
 
+module _ (readings : Readings) (f : Format) (bench : Bench) where
+  -- the same in a format: what it cannot tell is no text of a line
+  abbrev pub told_value : State → Json → Result (Label × State) MoveFault
+  told_value v j = if can_tell_line f j then value_move readings bench v j else Err no_move_text
+
   -- the command of a line and the state to which it leads, or its fault
   abbrev pub line_move : State → Text → Result (Label × State) MoveFault
-  line_move v t = elim (spelled_value readings t) [ Some j ↦ value_move v j | None ↦ Err no_move_text ]
+  line_move v t = elim (spelled_value readings t) [ Some j ↦ told_value v j | None ↦ Err no_move_text ]
 
   -- the fault of a line, read in a state, where it has one
   abbrev pub line_fault : State → Text → Option MoveFault
@@ -150,14 +172,15 @@ lines_within room (t ∷ ts) = if nat_lt (length t) room then t ∷ lines_within
 abbrev pub moves_fault : Readings → Counts → Bench → List Text → MoveFault
 moves_fault readings counts now ts =
     let v = now.timeline.first in
-    lines_fault readings now (lines_fault readings now no_move_text v (take counts.future (drop counts.past ts))) v (take counts.past ts)
+    lines_fault readings counts.format now (lines_fault readings counts.format now no_move_text v (take counts.future (drop counts.past ts))) v
+    (take counts.past ts)
 
 -- the counts of a head, and the bench of the present state alone
 abbrev pub opening_in : Readings → Text → Text → Text → Option (Counts × Bench)
 opening_in readings head source now =
     option_and_then
     (λ counts. option_and_then
-    (λ schema. option_map (λ bench. (counts, bench)) (option_and_then (present_in readings schema) (spelled_value readings now)))
+    (λ schema. option_map (λ bench. (counts, bench)) (option_and_then (present_in readings counts.format schema) (spelled_value readings now)))
     (option_and_then schema_in (spelled_value readings source)))
     (option_and_then counts_in (spelled_value readings head))
 
@@ -171,13 +194,19 @@ recorded_fault readings t = texts_fault readings (lines_within most_bench_bytes 
 
 -- ---- the laws
 
+-- the format is one of records
+abbrev pub IsOfRecords : Format → Type 0
+IsOfRecords f = record_format (format_number f) ≡ Some f
+
 -- the file of a bench is taken as that bench
 abbrev pub RecordedFilesAreTaken : Type 0
-RecordedFilesAreTaken = (readings : Readings) (t : Text) (bench : Bench) → IsFile readings records t bench → recorded_bench_in readings t ≡ Some bench
+RecordedFilesAreTaken =
+    (readings : Readings) (f : Format) (t : Text) (bench : Bench) → IsOfRecords f → IsFile readings f t bench → recorded_bench_in readings t ≡ Some bench
 
--- a text that is taken is the text of what it is taken as
+-- a text that is taken is the text of what it is taken as, in one of the formats of records
 abbrev pub TakenIsRecordedText : Type 0
-TakenIsRecordedText = (readings : Readings) (t : Text) (bench : Bench) → recorded_bench_in readings t ≡ Some bench → t ≡ recorded_text bench
+TakenIsRecordedText =
+    (readings : Readings) (t : Text) (bench : Bench) → recorded_bench_in readings t ≡ Some bench → (f : Format) × IsOfRecords f × (t ≡ recorded_text f bench)
 
 -- a text that tells of a record that doesn't fit is refused
 abbrev pub MisfitIsRefused : Type 0

@@ -1,5 +1,6 @@
 use Rattle.std.proofs.Common.{ap, arith}
 use Rattle.ssa_model.specs.definitions.History.{Bench, appended}
+use Rattle.ssa_file.specs.Heads.{format_view}
 use Rattle.ssa_bench.specs.Loading.{ReadsMoves}
 use Rattle.ssa_bench.proofs.LoadedParts.{fault-handed}
 use Rattle.ssa_bench.proofs.LoadedMoves.{went-more, went-refused, went-unread}
@@ -9,20 +10,20 @@ pub returns-in_err-line-clause-read : goal.returns-in_err-line-clause-read
 returns-in_err-line-clause-read g c =
     let fault = c.in_err-line.field-0.0 in
     fault-handed c.from_residual.result fault
-    (ReadsMoves appended c.args.count (g.R.Source.remaining c.args.reader.now) (g.R.Source.remaining c.next_line.new.reader) c.args.room.now
+    (ReadsMoves (format_view c.args.format) appended c.args.count (g.R.Source.remaining c.args.reader.now) (g.R.Source.remaining c.next_line.new.reader) c.args.room.now
     c.next_line.new.room c.args.bench.now c.loop.bench)
     c.from_residual.ensures.1
-    (went-unread appended c.args.count c.loop.counter _ _ _ _ c.loop.room c.next_line.new.room c.args.bench.now c.loop.bench c.loop.bench fault
+    (went-unread (format_view c.args.format) appended c.args.count c.loop.counter _ _ _ _ c.loop.room c.next_line.new.room c.args.bench.now c.loop.bench c.loop.bench fault
     c.loop-test.true c.loop.invariant.0 c.in_err-line.ensures.read)
 
 pub returns-in_err-go_on_by-clause-read : goal.returns-in_err-go_on_by-clause-read
 returns-in_err-go_on_by-clause-read g c =
     let fault = c.in_err-go_on_by.field-0.0 in
     fault-handed c.from_residual-in_err-go_on_by.result fault
-    (ReadsMoves appended c.args.count (g.R.Source.remaining c.args.reader.now) (g.R.Source.remaining c.next_line.new.reader) c.args.room.now
+    (ReadsMoves (format_view c.args.format) appended c.args.count (g.R.Source.remaining c.args.reader.now) (g.R.Source.remaining c.next_line.new.reader) c.args.room.now
     c.next_line.new.room c.args.bench.now c.go_on_by.new.self)
     c.from_residual-in_err-go_on_by.ensures.1
-    (went-refused appended c.args.count c.loop.counter _ _ _ _ c.loop.room c.next_line.new.room c.args.bench.now c.loop.bench c.go_on_by.new.self
+    (went-refused (format_view c.args.format) appended c.args.count c.loop.counter _ _ _ _ c.loop.room c.next_line.new.room c.args.bench.now c.loop.bench c.go_on_by.new.self
     c.in_ok-line.line fault
     c.loop-test.true c.loop.invariant.0 c.in_ok-line.ensures.read c.in_err-go_on_by.ensures)
 
@@ -31,7 +32,7 @@ loop-preserved g c =
     let moved = c.in_ok-go_on_by.ensures in
     let place = ap (λ (b : Bench). b.timeline.place) moved.2 in
     let before = c.loop.invariant.1 in (
-      went-more appended c.args.count c.loop.counter _ _ _ _ c.loop.room c.next_line.new.room c.args.bench.now c.loop.bench c.go_on_by.new.self
+      went-more (format_view c.args.format) appended c.args.count c.loop.counter _ _ _ _ c.loop.room c.next_line.new.room c.args.bench.now c.loop.bench c.go_on_by.new.self
           c.in_ok-line.line
           c.loop-test.true c.loop.invariant.0 c.in_ok-line.ensures.read moved,
       omega (arith, place, before),

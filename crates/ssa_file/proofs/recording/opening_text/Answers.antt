@@ -1,6 +1,6 @@
 -- The text of the three lines in front of the records.
 use Rattle.std.proofs.Common.{[], ◌++◌, refl, sym, ap, subst, ◌∙◌, append_assoc}
-use Rattle.ssa_model.specs.definitions.BenchText.{line, whole_object}
+use Rattle.ssa_model.specs.definitions.BenchText.{line, parts, whole_object}
 use Rattle.ssa_model.specs.definitions.Fitting.{IsBodyOf}
 use Rattle.ssa_model.specs.definitions.Operations.{State}
 use Rattle.ssa_model.specs.definitions.RecordedBench.{record_head}
@@ -27,10 +27,10 @@ returns-in_err-push_line-2-clause-refused c =
     let source = view c.json.result.now in
     let now = view c.in_ok-present.present in
     let fault = c.in_err-push_line-2.field-0.0 in
-    let head = c.in_ok-head.ensures ∙ (λ i. record_head (c.past_len.ensures.count i) (c.future_len.ensures.count i)) in
+    let head = c.in_ok-head.ensures ∙ (λ i. record_head parts (c.past_len.ensures.count i) (c.future_len.ensures.count i)) in
     let object = c.in_ok-present.ensures ∙ ap (whole_object (bench_with schema identity t)) c.present.ensures in
     let whole = sym (append_assoc text (line source) (line now ++ []))
-    ∙ opening-is schema identity t c.new-text.result.items text (text ++ line source) (view c.in_ok-head.head) source now
+    ∙ opening-is parts schema identity t c.new-text.result.items text (text ++ line source) (view c.in_ok-head.head) source now
     c.new-text.ensures.items c.in_ok-push_line.ensures.ok refl head c.json.ensures object in
     handed-on c.from_residual-in_err-push_line-2.result fault _ c.from_residual-in_err-push_line-2.ensures.1
     (lines-refused fault text (line source) (line now ++ []) _ whole c.in_err-push_line-2.ensures.refused)
@@ -44,10 +44,10 @@ returns-in_err-push_line-3-clause-refused c =
     let source = view c.json.result.now in
     let now = view c.in_ok-present.present in
     let fault = c.in_err-push_line-3.field-0.0 in
-    let head = c.in_ok-head.ensures ∙ (λ i. record_head (c.past_len.ensures.count i) (c.future_len.ensures.count i)) in
+    let head = c.in_ok-head.ensures ∙ (λ i. record_head parts (c.past_len.ensures.count i) (c.future_len.ensures.count i)) in
     let object = c.in_ok-present.ensures ∙ ap (whole_object (bench_with schema identity t)) c.present.ensures in
     let whole =
-    opening-is schema identity t c.new-text.result.items c.push_line.new.text.items text (view c.in_ok-head.head) source now
+    opening-is parts schema identity t c.new-text.result.items c.push_line.new.text.items text (view c.in_ok-head.head) source now
     c.new-text.ensures.items c.in_ok-push_line.ensures.ok c.in_ok-push_line-2.ensures.ok head c.json.ensures object in
     handed-on c.from_residual-in_err-push_line-3.result fault _ c.from_residual-in_err-push_line-3.ensures.1
     (lines-refused fault text (line now) [] _ whole c.in_err-push_line-3.ensures.refused)

@@ -1,7 +1,7 @@
 -- The text is the opening, the past's lines and the future's.
 use Rattle.std.proofs.Common.{[], ◌++◌, flat_map, ap, subst, ◌∙◌, append_assoc}
 use Rattle.std.proofs.lemmas.List.Elements.{All-append}
-use Rattle.ssa_model.specs.definitions.BenchText.{line}
+use Rattle.ssa_model.specs.definitions.BenchText.{line, parts}
 use Rattle.ssa_json.specs.Writable.{IsOfProgram}
 use Rattle.ssa_file.specs.Recording.{bench_with, future_values, opening_values, past_values}
 use Rattle.ssa_lines.specs.Saving.{CannotHold}
@@ -13,7 +13,7 @@ use Rattle.ssa_file.proofs.recording.recorded_text.Goals as goal
 pub returns-in_err-text-clause-refused : goal.returns-in_err-text-clause-refused
 returns-in_err-text-clause-refused c =
     let bench = bench_with c.args.schema.now c.args.identity.now c.args.history.now in
-    let front = opening_values bench in
+    let front = opening_values parts bench in
     let back = past_values bench in
     let on = future_values bench in
     let fault = c.in_err-text.field-0.0 in
@@ -23,7 +23,7 @@ returns-in_err-text-clause-refused c =
 pub returns-in_err-push_past-clause-refused : goal.returns-in_err-push_past-clause-refused
 returns-in_err-push_past-clause-refused c =
     let bench = bench_with c.args.schema.now c.args.identity.now c.args.history.now in
-    let front = opening_values bench in
+    let front = opening_values parts bench in
     let back = past_values bench in
     let on = future_values bench in
     let fault = c.in_err-push_past.field-0.0 in
@@ -35,7 +35,7 @@ returns-in_err-push_past-clause-refused c =
 pub returns-in_err-push_future-clause-refused : goal.returns-in_err-push_future-clause-refused
 returns-in_err-push_future-clause-refused c =
     let bench = bench_with c.args.schema.now c.args.identity.now c.args.history.now in
-    let front = opening_values bench in
+    let front = opening_values parts bench in
     let back = past_values bench in
     let on = future_values bench in
     let fault = c.in_err-push_future.field-0.0 in
@@ -47,7 +47,7 @@ returns-in_err-push_future-clause-refused c =
 pub returns-clause-ok : goal.returns-clause-ok
 returns-clause-ok c =
     let bench = bench_with c.args.schema.now c.args.identity.now c.args.history.now in
-    let front = opening_values bench in
+    let front = opening_values parts bench in
     let back = past_values bench in
     let on = future_values bench in
     let so_far = c.in_ok-push_past.ensures.ok ∙ ap (λ t. t ++ flat_map line back) c.in_ok-text.ensures.ok in
@@ -57,5 +57,5 @@ returns-clause-ok c =
 pub returns-clause-of_program : goal.returns-clause-of_program
 returns-clause-of_program c =
     let bench = bench_with c.args.schema.now c.args.identity.now c.args.history.now in
-    All-append IsOfProgram (opening_values bench) _ c.in_ok-text.ensures.of_program
+    All-append IsOfProgram (opening_values parts bench) _ c.in_ok-text.ensures.of_program
     (All-append IsOfProgram (past_values bench) (future_values bench) c.in_ok-push_past.ensures.of_program c.in_ok-push_future.ensures.of_program)

@@ -1,27 +1,37 @@
 use Rattle.std.proofs.Common.{refl}
 use Rattle.clap.proofs.OnLiterals.{clap_on_literals}
-use Rattle.ssa_words.specs.WordRows.{ApplyIsByKubectl, ApplyIsByManager, HelpIsAsked, OthersAreRefused, ShowIsRead}
+use Rattle.ssa_words.specs.WordRows.{ApplyIsByKubectl, ApplyIsByManager, HelpIsAsked, OtherSubresourcesAreRefused, OthersAreRefused, ShowIsRead, StatusIsRead, Wherever}
+use Rattle.ssa_words.proofs.TableFacts.{wherever}
 use Rattle.ssa_words.proofs.rows.words_are_worked.Goals as goal
 
-kubectl : ApplyIsByKubectl
+kubectl : Wherever ApplyIsByKubectl
 unfolding clap_on_literals
-kubectl = (refl, refl, refl, refl, refl, refl)
+kubectl = wherever ApplyIsByKubectl (λ at text_at. (refl, refl, refl, refl, refl, refl, refl))
 
-manager : ApplyIsByManager
+manager : Wherever ApplyIsByManager
 unfolding clap_on_literals
-manager = (refl, refl, refl)
+manager = wherever ApplyIsByManager (λ at text_at. (refl, refl, refl))
 
-show : ShowIsRead
+status : Wherever StatusIsRead
 unfolding clap_on_literals
-show = (refl, refl, refl)
+status = wherever StatusIsRead (λ at text_at. (refl, refl, refl, refl))
 
-others : OthersAreRefused
+subresources : Wherever OtherSubresourcesAreRefused
 unfolding clap_on_literals
-others = (refl, refl, refl, refl, refl)
+subresources = wherever OtherSubresourcesAreRefused (λ at text_at. (refl, refl, refl, refl, refl, refl))
 
-help : HelpIsAsked
+show : Wherever ShowIsRead
 unfolding clap_on_literals
-help = refl
+show = wherever ShowIsRead (λ at text_at. (refl, refl, refl))
+
+others : Wherever OthersAreRefused
+unfolding clap_on_literals
+others = wherever OthersAreRefused (λ at text_at. (refl, refl, refl, refl, refl))
+
+help : Wherever HelpIsAsked
+unfolding clap_on_literals
+help = wherever HelpIsAsked (λ at text_at. refl)
 
 pub returns : goal.returns
-returns c = record { kubectl = kubectl; manager = manager; show = show; others = others; help = help }
+returns c =
+    record { kubectl = kubectl; manager = manager; status = status; subresources = subresources; show = show; others = others; help = help }

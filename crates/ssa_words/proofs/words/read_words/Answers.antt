@@ -10,16 +10,18 @@ pub call-requires : goal.call-requires
 call-requires g c =
     let words = map g.S.AsStr.text c.args.words.now in
     let is = c.in_ok-program.ensures.0 in
-    let none = sym (ap (λ a. fault_of a words) is) ∙ c.in-Ok.ensures.kinds (ap is_simple_and_free is ∙ table_is_free) in
-    let rows = (c.in-Ok.ensures.matches (ap is_simple is ∙ table_is_simple)).1 ∙ ap (λ a. subcommand_of a words) is in
-    subst IsWholeMatch (sym rows) (table_taken words none)
+    let none = sym (ap (λ a. fault_of a words) is) ∙ c.in-Ok.ensures.kinds (ap is_simple_and_free is ∙ table_is_free c.subresources.result) in
+    let rows = (c.in-Ok.ensures.matches (ap is_simple is ∙ table_is_simple c.subresources.result)).1 ∙ ap (λ a. subcommand_of a words) is in
+    subst IsWholeMatch (sym rows) (table_taken c.subresources.result c.subresources.ensures words none)
 
 pub returns-in-Ok : goal.returns-in-Ok
 returns-in-Ok g c =
     let words = map g.S.AsStr.text c.args.words.now in
     let is = c.in_ok-program.ensures.0 in
-    let rows = (c.in-Ok.ensures.matches (ap is_simple is ∙ table_is_simple)).1 ∙ ap (λ a. subcommand_of a words) is in (
-      sym (ap (λ a. fault_of a words) is) ∙ c.in-Ok.ensures.kinds (ap is_simple_and_free is ∙ table_is_free),
+    let rows = (c.in-Ok.ensures.matches (ap is_simple is ∙ table_is_simple c.subresources.result)).1 ∙ ap (λ a. subcommand_of a words) is in (
+      c.subresources.result,
+      c.subresources.ensures,
+      sym (ap (λ a. fault_of a words) is) ∙ c.in-Ok.ensures.kinds (ap is_simple_and_free is ∙ table_is_free c.subresources.result),
       subst (λ p. IsMatched p c.call.result) rows c.call.ensures,
     )
 
@@ -27,4 +29,4 @@ pub returns-in-Err : goal.returns-in-Err
 returns-in-Err g c =
     let words = map g.S.AsStr.text c.args.words.now in
     let is = c.in_ok-program.ensures.0 in
-    usage_by words c.in-Err.fault c.of.result (ap (λ a. fault_of a words) is) (c.in-Err.ensures.kinds (ap is_simple_and_free is ∙ table_is_free)) c.of.ensures
+    usage_by c.subresources.result c.subresources.ensures words c.in-Err.fault c.of.result (ap (λ a. fault_of a words) is) (c.in-Err.ensures.kinds (ap is_simple_and_free is ∙ table_is_free c.subresources.result)) c.of.ensures

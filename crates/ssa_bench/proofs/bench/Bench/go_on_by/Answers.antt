@@ -12,6 +12,7 @@ use Rattle.ssa_turn.specs.TablesBack.{HasTableBack}
 use Rattle.ssa_turn.specs.declared.label.Label.{Label}
 use Rattle.ssa_turn_state.specs.States.{HasStateRoom, IsTaken, state_steps}
 use Rattle.ssa_turn_state.specs.declared.live_state.StateDelta.{StateDelta}
+use Rattle.ssa_file.specs.Heads.{format_view}
 use Rattle.ssa_bench.specs.BenchView.{bench_view}
 use Rattle.ssa_bench.specs.Taking.{IsToldMove, TellsMove}
 use Rattle.ssa_bench.proofs.bench.Bench.go_on_by.Goals as goal
@@ -21,7 +22,7 @@ pub append-requires-clause-fits : goal.append-requires-clause-fits
 append-requires-clause-fits c =
     let bench : model.Bench = bench_view c.self-2.inside in
     let v = view c.args.line.now.value in
-    let told = subst (λ (b : model.Bench). TellsMove b (Ok c.in_ok-step.step) v) (sym (c.self-2.view_is ∙ c.in_ok-step.ensures.same))
+    let told = subst (λ (b : model.Bench). TellsMove (format_view c.args.format) b (Ok c.in_ok-step.step) v) (sym (c.self-2.view_is ∙ c.in_ok-step.ensures.same))
     c.in_ok-step.ensures.told in
     subst (λ (e : StateDelta × Label). IsTaken (state_steps e.0) (present bench.timeline) (carry (state_steps e.0) (present bench.timeline)))
     (sym c.in_ok-boxed.ensures)
@@ -32,13 +33,13 @@ append-requires-clause-room c =
     let bench : model.Bench = bench_view c.self-2.inside in
     let v = view c.args.line.now.value in
     subst (λ (e : StateDelta × Label). HasStateRoom e.0 (present bench.timeline)) (sym c.in_ok-boxed.ensures)
-    ((subst (λ (b : model.Bench). TellsMove b (Ok c.in_ok-step.step) v) (sym (c.self-2.view_is ∙ c.in_ok-step.ensures.same)) c.in_ok-step.ensures.told).1.room)
+    ((subst (λ (b : model.Bench). TellsMove (format_view c.args.format) b (Ok c.in_ok-step.step) v) (sym (c.self-2.view_is ∙ c.in_ok-step.ensures.same)) c.in_ok-step.ensures.told).1.room)
 
 pub append-requires-clause-back : goal.append-requires-clause-back
 append-requires-clause-back c =
     let bench : model.Bench = bench_view c.self-2.inside in
     let v = view c.args.line.now.value in
-    let told = subst (λ (b : model.Bench). TellsMove b (Ok c.in_ok-step.step) v) (sym (c.self-2.view_is ∙ c.in_ok-step.ensures.same))
+    let told = subst (λ (b : model.Bench). TellsMove (format_view c.args.format) b (Ok c.in_ok-step.step) v) (sym (c.self-2.view_is ∙ c.in_ok-step.ensures.same))
     c.in_ok-step.ensures.told in
     subst (λ (e : StateDelta × Label). HasTableBack (carry (state_steps e.0) (present bench.timeline))) (sym c.in_ok-boxed.ensures)
     (subst HasTableBack (sym (fixes_target bench.schema.kind (state_steps c.in_ok-step.step.delta) (present bench.timeline) told.0 told.1.takes)) told.1.back)
@@ -49,7 +50,7 @@ invariant_of-self-2 c =
     let bench : model.Bench = bench_view b in
     let v = view c.args.line.now.value in
     let same = sym (c.self-2.view_is ∙ c.in_ok-step.ensures.same) in
-    let told = subst (λ (n : model.Bench). TellsMove n (Ok c.in_ok-step.step) v) same c.in_ok-step.ensures.told in
+    let told = subst (λ (n : model.Bench). TellsMove (format_view c.args.format) n (Ok c.in_ok-step.step) v) same c.in_ok-step.ensures.told in
     let few = subst (λ (n : model.Bench). past_len n.timeline < most_past) same c.requires.few in
     let w = told.0 in
     let label = label_view c.in_ok-step.step.label in
@@ -68,7 +69,7 @@ returns c =
     let same = sym (c.self-2.view_is ∙ c.in_ok-step.ensures.same) in
     let own = c.in_ok-step.ensures.told in
     let w = own.0 in
-    let takes = (subst (λ (n : model.Bench). IsToldMove n c.in_ok-step.step v w) same own.1).takes in
+    let takes = (subst (λ (n : model.Bench). IsToldMove (format_view c.args.format) n c.in_ok-step.step v w) same own.1).takes in
     let label = label_view c.in_ok-step.step.label in
     let unboxed = ap (λ (e : StateDelta × Label). appended b.timeline (label_view e.1) (carry (state_steps e.0) (present b.timeline))) c.in_ok-boxed.ensures in
     let led = fixes_target bench.schema.kind (state_steps c.in_ok-step.step.delta) (present b.timeline) w takes in
