@@ -5,11 +5,12 @@ use Rattle.std.specs.Prelude.{Result, Ok, Err, if◌then◌else◌, nat_le, code
 use Rattle.ssa_model.specs.definitions.Limits.{most_past}
 use Rattle.ssa_model.specs.definitions.Json.{Text, Json}
 use Rattle.ssa_model.specs.definitions.Body.{Body}
+use Rattle.ssa_model.specs.definitions.Parts.{Actor}
 use Rattle.ssa_model.specs.definitions.Operations.{State, Refusal, clashes, strip}
 use Rattle.ssa_model.specs.definitions.History.{Bench, Step, Timeline, appended, is_manager_name, last_state, past_len, present, with_timeline}
 use Rattle.ssa_model.specs.definitions.History as history
 use Rattle.ssa_model.specs.definitions.Answers as model
-use Rattle.ssa_model.specs.definitions.Answers.{Answer, fault, refused, history_full, manager_name, comparison, accept, accept_or_refuse, command_body, with_body}
+use Rattle.ssa_model.specs.definitions.Answers.{Answer, fault, refused, history_full, manager_name, no_subresource, has_part, comparison, accept, accept_or_refuse, command_body, with_body}
 use Rattle.ssa_model.specs.definitions.RecordReading.{HasReadPaths}
 use Rattle.ssa_model.specs.definitions.RecordedBench.{HasReadHistory, HasReadStep}
 use Rattle.ssa_model.specs.definitions.Valid.{IsValidState, KeepsOrder}
@@ -49,6 +50,7 @@ module _ (bench : Bench) (word : Text) where
   told faults.ManagedFieldsGiven g a e h = record { cause = g; reply = ap (λ x. x.0) e; told = h; stays = ap (λ x. x.1) e }
   told (faults.Entry f) g a e h = record { cause = g; reply = ap (λ x. x.0) e; told = h; stays = ap (λ x. x.1) e }
   told faults.ManagerName g a e h = record { cause = g; reply = ap (λ x. x.0) e; told = h; stays = ap (λ x. x.1) e }
+  told faults.NoSubresource g a e h = record { cause = g; reply = ap (λ x. x.0) e; told = h; stays = ap (λ x. x.1) e }
   told faults.HistoryFull g a e h = record { cause = g; reply = ap (λ x. x.0) e; told = h; stays = ap (λ x. x.1) e }
   told faults.NothingToUndo g a e h = record { cause = g; reply = ap (λ x. x.0) e; told = h; stays = ap (λ x. x.1) e }
   told faults.NothingToRedo g a e h = record { cause = g; reply = ap (λ x. x.0) e; told = h; stays = ap (λ x. x.1) e }
@@ -65,6 +67,7 @@ module _ (bench : Bench) (word : Text) where
   told-first faults.ManagedFieldsGiven r a go h = told faults.ManagedFieldsGiven h.0 a (go h.0 h.1) h.2
   told-first (faults.Entry f) r a go h = told (faults.Entry f) h.0 a (go h.0 h.1) h.2
   told-first faults.ManagerName r a go h = told faults.ManagerName h.0 a (go h.0 h.1) h.2
+  told-first faults.NoSubresource r a go h = told faults.NoSubresource h.0 a (go h.0 h.1) h.2
   told-first faults.HistoryFull r a go h = told faults.HistoryFull h.0 a (go h.0 h.1) h.2
   told-first faults.NothingToUndo r a go h = told faults.NothingToUndo h.0 a (go h.0 h.1) h.2
   told-first faults.NothingToRedo r a go h = told faults.NothingToRedo h.0 a (go h.0 h.1) h.2
@@ -72,20 +75,24 @@ module _ (bench : Bench) (word : Text) where
   told-first faults.TooManyManagers r a go h = told faults.TooManyManagers h.0 a (go h.0 h.1) h.2
   told-first faults.OutOfMemory r a go h = tt
 
-module _ (bench : Bench) (who : Text) (v : Json) (go : Body → Answer) where
+module _ (bench : Bench) (who : Actor) (v : Json) (go : Body → Answer) where
   abbrev answered : Result Body model.Fault → Answer
   answered r = elim r [ Ok body ↦ go body | Err f ↦ (fault f, bench) ]
 
-  in_order : (full named : Bool) (r : Result Body model.Fault)
-      → (if full then (fault history_full, bench) else (if not named then (fault manager_name, bench) else answered r))
-      ≡ answered (if full then Err history_full else (if not named then Err manager_name else r))
-  in_order true named r = refl
-  in_order false true r = refl
-  in_order false false r = refl
+  in_order : (full named parted : Bool) (r : Result Body model.Fault)
+      → (if full then (fault history_full, bench)
+      else (if not named then (fault manager_name, bench) else (if not parted then (fault no_subresource, bench) else answered r)))
+      ≡ answered (if full then Err history_full else (if not named then Err manager_name else (if not parted then Err no_subresource else r)))
+  in_order true named parted r = refl
+  in_order false false parted r = refl
+  in_order false true false r = refl
+  in_order false true true r = refl
 
   -- the tests come first
   pub with_body-tested : (r : Result Body model.Fault) → tested_body bench who v ≡ r → with_body bench who v go ≡ answered r
-  with_body-tested r e = in_order (nat_le most_past (past_len bench.timeline)) (is_manager_name who) (command_body bench v) ∙ ap answered e
+  with_body-tested r e =
+      in_order (nat_le most_past (past_len bench.timeline)) (is_manager_name who.name) (has_part bench.schema.kind who.part) (command_body bench v)
+      ∙ ap answered e
 
 -- ---- what was prepared
 

@@ -24,7 +24,7 @@ use Rattle.ssa_bench.specs.Benches.{table_or_fault}
 use Rattle.ssa_answers.specs.Faults.{IsFault, IsGiven}
 use Rattle.ssa_object.specs.Identities.{identity_in}
 use Rattle.ssa_answers.specs.declared.fault.Fault.{Fault}
-use Rattle.ssa_answers.specs.declared.fault.Fault.TheVariants.{Body, TooManyPaths, Identity, ManagedFieldsGiven, Entry, ManagerName, HistoryFull, NothingToUndo, NothingToRedo, Conflict, TooManyManagers, OutOfMemory}
+use Rattle.ssa_answers.specs.declared.fault.Fault.TheVariants.{Body, TooManyPaths, Identity, ManagedFieldsGiven, Entry, ManagerName, NoSubresource, HistoryFull, NothingToUndo, NothingToRedo, Conflict, TooManyManagers, OutOfMemory}
 
 -- ---- faults that are told
 
@@ -37,6 +37,7 @@ passed-on Identity r s go h = (h.0, go h.0 h.1, h.2)
 passed-on ManagedFieldsGiven r s go h = (h.0, go h.0 h.1, h.2)
 passed-on (Entry f) r s go h = (h.0, go h.0 h.1, h.2)
 passed-on ManagerName r s go h = (h.0, go h.0 h.1, h.2)
+passed-on NoSubresource r s go h = (h.0, go h.0 h.1, h.2)
 passed-on HistoryFull r s go h = (h.0, go h.0 h.1, h.2)
 passed-on NothingToUndo r s go h = (h.0, go h.0 h.1, h.2)
 passed-on NothingToRedo r s go h = (h.0, go h.0 h.1, h.2)

@@ -5,7 +5,8 @@ use Rattle.ssa_model.specs.definitions.Objects.{value_at}
 use Rattle.ssa_model.specs.definitions.Commands.{text_in}
 use Rattle.ssa_model.specs.definitions.Json.{Text, Json}
 use Rattle.ssa_model.specs.definitions.Body.{Body}
-use Rattle.ssa_model.specs.definitions.Table.{Table}
+use Rattle.ssa_model.specs.definitions.Parts.{Actor}
+use Rattle.ssa_model.specs.definitions.Table.{Table, key_of, updates}
 use Rattle.ssa_model.specs.definitions.GivenEntries.{EntryFault, table_of}
 use Rattle.ssa_model.specs.definitions.History as model
 use Rattle.ssa_model.specs.definitions.History.{appended, is_manager_name, past_len, present, with_timeline}
@@ -16,7 +17,7 @@ use Rattle.ssa_model.specs.definitions.Answers as answers
 use Rattle.ssa_model.specs.definitions.Answers.{Answer}
 use Rattle.ssa_model.specs.definitions.Valid.{IsValidState}
 use Rattle.ssa_json.specs.Readings.{readings}
-use Rattle.ssa_merge.specs.States.{state_view, updater}
+use Rattle.ssa_merge.specs.States.{state_view}
 use Rattle.ssa_merge.specs.TableChanges.{changed_table}
 use Rattle.ssa_merge.specs.declared.change.Change.{Change}
 use Rattle.ssa_merge.specs.declared.state.State.{State}
@@ -80,14 +81,16 @@ changed_by before c =
     }
 
 -- the body of an Apply's or an Update's object, or the command's first fault
-abbrev pub tested_body : model.Bench → Text → Json → Result Body answers.Fault
+abbrev pub tested_body : model.Bench → Actor → Json → Result Body answers.Fault
 tested_body bench who v =
     if nat_le most_past (past_len bench.timeline) then Err answers.history_full
-    else (if not (is_manager_name who) then Err answers.manager_name else answers.command_body bench v)
+    else (if not (is_manager_name who.name) then Err answers.manager_name
+    else (if not (answers.has_part bench.schema.kind who.part) then Err answers.no_subresource else answers.command_body bench v))
 
 -- the answer to an Update to a body
-abbrev pub update_answer : model.Bench → Text → Text → Body → Answer
-update_answer bench who at body = answers.accept_or_refuse bench (codes "update") (model.updated who at) (update (present bench.timeline) (updater who) body at)
+abbrev pub update_answer : model.Bench → Actor → Text → Body → Answer
+update_answer bench who at body =
+    answers.accept_or_refuse bench (codes "update") (model.updated who at) (update (present bench.timeline) (key_of updates who) body at)
 
 -- the command is refused for the fault, and the bench stays
 pub record IsRefused (bench : model.Bench) (f : Fault) (given : Answer) : Type 0 where

@@ -12,7 +12,8 @@ ghost use Rattle.ssa_model.specs.definitions.Valid.{IsTable, IsValidState, IsVal
 ghost use Rattle.ssa_json.specs.Readings.{readings};
 ghost use Rattle.ssa_json.specs.View.{view};
 ghost use Rattle.ssa_merge.specs.Managers.{lent_keys};
-ghost use Rattle.ssa_merge.specs.States.{state_view};
+ghost use Rattle.ssa_path.specs.Subresources.{part_view};
+ghost use Rattle.ssa_merge.specs.States.{actor, state_view};
 ghost use Rattle.ssa_bench.specs.Benches.{next_bench, table_or_fault, IsPreparedOn, IsExecuted, IsGivenState, IsMade, IsMoved, IsPrepared, table_of_entries, tested_body, update_answer, version_in};
 ghost use Rattle.ssa_answers.specs.Faults.{IsGiven};
 ghost use Rattle.ssa_answers.specs.Changes.{command_view, command_word};

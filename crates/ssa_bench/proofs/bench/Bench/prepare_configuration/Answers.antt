@@ -5,10 +5,12 @@ use Rattle.ssa_model.specs.definitions.History as model
 use Rattle.ssa_model.specs.definitions.History.{is_manager_name, present}
 use Rattle.ssa_model.specs.definitions.Operations.{State, Refusal, apply}
 use Rattle.ssa_model.specs.definitions.Answers.{apply_answer}
+use Rattle.ssa_model.specs.definitions.Table.{applies, key_of}
 use Rattle.ssa_model.specs.definitions.Valid.{IsValidState, IsValidBody}
 use Rattle.ssa_model.specs.definitions.RecordReading.{HasReadPaths}
 use Rattle.ssa_json.specs.Readings.{readings}
-use Rattle.ssa_merge.specs.States.{state_view, applier}
+use Rattle.ssa_path.specs.Subresources.{part_view}
+use Rattle.ssa_merge.specs.States.{actor, state_view}
 use Rattle.ssa_bench.specs.Benches.{IsPrepared}
 use Rattle.ssa_answers.specs.declared.fault.Fault.{Fault}
 use Rattle.ssa_turn.specs.TablesBack.{HasTableBack}
@@ -63,7 +65,7 @@ pub returns-in_ok-prepared-in-Ok : goal.returns-in_ok-prepared-in-Ok
 returns-in_ok-prepared-in-Ok c =
     let bench = c.args.self.now in
     let who = string_bytes c.args.who in
-    let to : State → Text → Result State Refusal = λ s n. apply s (applier n) c.args.config c.args.force c.args.at in
+    let to : State → Text → Result State Refusal = λ s n. apply s (key_of applies (actor n (part_view c.args.part))) c.args.config c.args.force c.args.at in
     let b = c.self.inside in
     let kind = b.schema.kind in
     let valid : model.Bench → Type 0 = λ n. IsValidBody n.schema.kind c.args.config in
@@ -73,7 +75,7 @@ returns-in_ok-prepared-in-Ok c =
     let now_is = c.present-now.ensures ∙ ap (λ n. present n.timeline) c.self.view_is in
     let change = c.in-Ok.change in
     let p = c.in_ok-prepared-in-Ok.prepared in
-    let label = Apply c.args.at c.args.force c.args.who in
+    let label = Apply c.args.at c.args.force c.args.who c.args.part in
     let made : IsRecorded before label change p = record {
       label_is = c.in_ok-prepared-in-Ok.ensures.label;
       record_is = c.in_ok-prepared-in-Ok.ensures.record;
@@ -98,10 +100,10 @@ pub returns-in-Err : goal.returns-in-Err
 returns-in-Err c =
     let bench = c.args.self.now in
     let who = string_bytes c.args.who in
-    let to : State → Text → Result State Refusal = λ s n. apply s (applier n) c.args.config c.args.force c.args.at in
+    let to : State → Text → Result State Refusal = λ s n. apply s (key_of applies (actor n (part_view c.args.part))) c.args.config c.args.force c.args.at in
     let now_is = c.present-now.ensures ∙ ap (λ n. present n.timeline) c.self.view_is in
-    let tells : Fault → Type 0 = λ f. IsPrepared bench (Err f) (apply_answer bench who c.args.force c.args.at c.args.config) (codes "apply") in
+    let tells : Fault → Type 0 = λ f. IsPrepared bench (Err f) (apply_answer bench (actor who (part_view c.args.part)) c.args.force c.args.at c.args.config) (codes "apply") in
     subst tells (sym c.from.ensures)
-    (refused-planned bench (codes "apply") (Apply c.args.at c.args.force c.args.who) c.in-Err.refusal (to (present bench.timeline) who)
+    (refused-planned bench (codes "apply") (Apply c.args.at c.args.force c.args.who c.args.part) c.in-Err.refusal (to (present bench.timeline) who)
     (planned-at to (Err c.in-Err.refusal) (state_view c.present-now.result.now) (present bench.timeline) c.as_str.result.now who now_is c.as_str.ensures.value
     c.in-Err.ensures.change))

@@ -4,10 +4,12 @@ use Rattle.ssa_model.specs.definitions.Json.{Text}
 use Rattle.ssa_model.specs.definitions.History as model
 use Rattle.ssa_model.specs.definitions.History.{is_manager_name, present}
 use Rattle.ssa_model.specs.definitions.Operations.{State, Refusal, update}
+use Rattle.ssa_model.specs.definitions.Table.{updates, key_of}
 use Rattle.ssa_model.specs.definitions.Valid.{IsValidState, IsValidBody}
 use Rattle.ssa_model.specs.definitions.RecordReading.{HasReadPaths}
 use Rattle.ssa_json.specs.Readings.{readings}
-use Rattle.ssa_merge.specs.States.{state_view, updater}
+use Rattle.ssa_path.specs.Subresources.{part_view}
+use Rattle.ssa_merge.specs.States.{actor, state_view}
 use Rattle.ssa_bench.specs.Benches.{IsPrepared, update_answer}
 use Rattle.ssa_answers.specs.declared.fault.Fault.{Fault}
 use Rattle.ssa_turn.specs.TablesBack.{HasTableBack}
@@ -26,7 +28,7 @@ accepted-requires-clause-valid c =
     let valid : model.Bench → Type 0 = λ n. IsValidBody n.schema.kind c.args.body in
     let live = subst (IsValidState kind) (sym c.present-now.ensures) (present_valid kind b.timeline c.self.invariant.states) in
     let body = subst valid (sym c.self.view_is) c.requires.valid in
-    (kind, live, c.in-Ok.ensures.valid kind live body.fits body.few)
+    (kind, live, c.in-Ok.ensures.valid kind live body.fits)
 
 pub accepted-requires-clause-read : goal.accepted-requires-clause-read
 accepted-requires-clause-read c =
@@ -49,7 +51,7 @@ pub returns-in_ok-prepared-in-Ok : goal.returns-in_ok-prepared-in-Ok
 returns-in_ok-prepared-in-Ok c =
     let bench = c.args.self.now in
     let who = string_bytes c.args.who in
-    let to : State → Text → Result State Refusal = λ s n. update s (updater n) c.args.body c.args.at in
+    let to : State → Text → Result State Refusal = λ s n. update s (key_of updates (actor n (part_view c.args.part))) c.args.body c.args.at in
     let b = c.self.inside in
     let kind = b.schema.kind in
     let valid : model.Bench → Type 0 = λ n. IsValidBody n.schema.kind c.args.body in
@@ -59,7 +61,7 @@ returns-in_ok-prepared-in-Ok c =
     let now_is = c.present-now.ensures ∙ ap (λ n. present n.timeline) c.self.view_is in
     let change = c.in-Ok.change in
     let p = c.in_ok-prepared-in-Ok.prepared in
-    let label = Update c.args.at c.args.who in
+    let label = Update c.args.at c.args.who c.args.part in
     let made : IsRecorded before label change p = record {
       label_is = c.in_ok-prepared-in-Ok.ensures.label;
       record_is = c.in_ok-prepared-in-Ok.ensures.record;
@@ -68,7 +70,7 @@ returns-in_ok-prepared-in-Ok c =
     } in
     let back = subst HasTableBack (sym c.present-now.ensures) (present-back b.timeline c.own_entries_are_read.ensures) in
     let kept : IsKept kind before change = record {
-      valid = c.in-Ok.ensures.valid kind live body.fits body.few;
+      valid = c.in-Ok.ensures.valid kind live body.fits;
       order = c.in-Ok.ensures.order live.table.managers.distinct;
       back = c.in_ok-prepared-in-Ok.ensures.back back;
     } in
@@ -84,10 +86,10 @@ pub returns-in-Err : goal.returns-in-Err
 returns-in-Err c =
     let bench = c.args.self.now in
     let who = string_bytes c.args.who in
-    let to : State → Text → Result State Refusal = λ s n. update s (updater n) c.args.body c.args.at in
+    let to : State → Text → Result State Refusal = λ s n. update s (key_of updates (actor n (part_view c.args.part))) c.args.body c.args.at in
     let now_is = c.present-now.ensures ∙ ap (λ n. present n.timeline) c.self.view_is in
-    let tells : Fault → Type 0 = λ f. IsPrepared bench (Err f) (update_answer bench who c.args.at c.args.body) (codes "update") in
+    let tells : Fault → Type 0 = λ f. IsPrepared bench (Err f) (update_answer bench (actor who (part_view c.args.part)) c.args.at c.args.body) (codes "update") in
     subst tells (sym c.from.ensures)
-    (refused-planned bench (codes "update") (Update c.args.at c.args.who) c.in-Err.refusal (to (present bench.timeline) who)
+    (refused-planned bench (codes "update") (Update c.args.at c.args.who c.args.part) c.in-Err.refusal (to (present bench.timeline) who)
     (planned-at to (Err c.in-Err.refusal) (state_view c.present-now.result.now) (present bench.timeline) c.as_str.result.now who now_is c.as_str.ensures.value
     c.in-Err.ensures.change))
