@@ -1,7 +1,7 @@
 -- The texts of faults.
 use Rattle.std.proofs.Common.{◌≡◌, ◌≢◌, [], ◌∷◌, ◌++◌, true, refl, sym, ap, ◌∙◌}
 use Rattle.std.specs.Prelude.{codes}
-use Rattle.ssa_model.specs.definitions.Json.{Text, Json, list, object, no_members, member, compact, compact_members}
+use Rattle.ssa_model.specs.definitions.Json.{Text, list, object, no_members, member, compact, compact_members}
 use Rattle.ssa_model.specs.definitions.Path.{Path, element_text}
 use Rattle.ssa_model.specs.definitions.Kind as kinds
 use Rattle.ssa_model.specs.definitions.Entries.{operation_text, part_members, text_json}
