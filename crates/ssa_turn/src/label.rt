@@ -56,12 +56,7 @@ fn applied_json(
     Ok(Json::Object(members))
 }
 
-fn updated_json(
-    alloc: Global,
-    at: &Moment,
-    who: &str,
-    part: Part,
-) -> Result<Json, AllocError>
+fn updated_json(alloc: Global, at: &Moment, who: &str, part: Part) -> Result<Json, AllocError>
     ensures { IfOk result (λ v. view v ≡ label_json (updated (actor who.now (part_view part)) at.now)) }
 {
     let time = at.to_text(alloc)?;
@@ -136,7 +131,8 @@ fn push_stripped(text: &mut Vec<u8>) -> Result<(), AllocError>
 
 impl Label {
     /// The label as a value, as
-    /// `{"at":"2024-05-01T10:00:01Z","do":"apply","force":false,"manager":"kubectl"}`.
+    /// `{"at":"2024-05-01T10:00:01Z","do":"apply","force":false,"manager":"kubectl"}`, with `"subresource":"status"`
+    /// behind the manager where it acts through that.
     pub fn to_json(&self, alloc: Global) -> Result<Json, AllocError>
         ensures { IfOk result (λ v. view v ≡ label_json (label_view self.now)) }
     {
