@@ -131,7 +131,8 @@ fn push_stripped(text: &mut Vec<u8>) -> Result<(), AllocError>
 
 impl Label {
     /// The label as a value, as
-    /// `{"at":"2024-05-01T10:00:01Z","do":"apply","force":false,"manager":"kubectl"}`.
+    /// `{"at":"2024-05-01T10:00:01Z","do":"apply","force":false,"manager":"kubectl"}`, with `"subresource":"status"`
+    /// behind the manager where it acts through that.
     pub fn to_json(&self, alloc: Global) -> Result<Json, AllocError>
         ensures { IfOk result (λ v. view v ≡ label_json (label_view self.now)) }
     {
