@@ -1,6 +1,7 @@
--- The decisions of an Apply, over what was computed.
-use Rattle.std.proofs.Common.{◌≡◌, ℕ, ◌<◌, ◌≤◌, List, [], ◌∷◌, length, Bool, true, false, not, ◌||◌, nat_lt, refl, sym, ap, subst, ◌∙◌, arith}
+-- The decisions of an Apply and of an Update, over what was computed.
+use Rattle.std.proofs.Common.{◌≡◌, ℕ, ◌-◌, ◌^◌, min, ◌<◌, ◌≤◌, List, [], ◌∷◌, length, Bool, true, false, not, ◌||◌, nat_lt, refl, sym, ap, subst, ◌∙◌, arith}
 use Rattle.std.proofs.Math.Dec.{ltb}
+use Rattle.std.proofs.Math.Nat.{min-eq_left, min-eq_right}
 use Rattle.std.proofs.lemmas.Bool.{ltb-false, ltb-true}
 use Rattle.std.proofs.lemmas.Bool.Decides.{nat_tests}
 use Rattle.std.specs.declared.alloc.Global.{Global}
@@ -109,6 +110,13 @@ decided-state force clash places body table h n fits =
 
 -- ---- places
 
+-- a count that ends with the largest number tells whether there are too many
+pub many-places : (n m : ℕ) → n ≡ min m (2 ^ 64 - 1) → most_places < n → most_places < m
+many-places n m is h = grind (arith, min-eq_left, min-eq_right)
+
+pub few-places : (n m : ℕ) → n ≡ min m (2 ^ 64 - 1) → n ≤ most_places → m ≤ most_places
+few-places n m is h = grind (arith, min-eq_left, min-eq_right)
+
 -- a body that is found to have too many places has too many
 pub too-many : (found : Bool) (made body : bodies.Body) → made ≡ body → (found ≡ true → most_places < size made) → found ≡ true → most_places < size body
 too-many found made body is h t = subst (λ b. most_places < size b) is (h t)
@@ -142,28 +150,3 @@ unseated before force clash places body table TooManyPaths h n given = absurd gi
 unseated before force clash places body table TooManyManagers h n given =
     (model.too_many_managers, decided-managers force clash places body table h n given, refl)
 unseated before force clash places body table OutOfMemory h n given = tt
-
--- ---- an Update
-
--- an Update whose managers all have a place makes its change
-pub placed : (before : State) (change : Change) (body : bodies.Body) (table : Table) → body_after change.body change.comparison.removed before.body ≡ body
-    → LeadsTo before.table change.table table
-    → IsComparison before.body body change.comparison → IsChanged before (Ok change) (if_seated (record { body = body; table = table }))
-placed before change body table is leads compared = (
-  record { body = body; table = table },
-  ap (λ b. if b then Err too_many_managers else Ok (record { body = body; table = table })) (at_most most_managers (length table) leads.managers.few),
-  record { body_is = is; table_leads = leads; comparison_is = compared },
-)
-
--- an Update whose managers have no place is refused as the table says
-pub unplaced : (before : State) (body : bodies.Body) (table : Table) (f : Refusal) → IsSeated before.table (Err f) table
-    → IsChanged before (Err f) (if_seated (record { body = body; table = table }))
-unplaced before body table (Conflict clashes) given = absurd given
-unplaced before body table TooManyPaths given = absurd given
-unplaced before body table TooManyManagers given = (
-  model.too_many_managers,
-  ap (λ b. if b then Err too_many_managers else Ok (record { body = body; table = table }))
-      (more most_managers (length table) given),
-  refl,
-)
-unplaced before body table OutOfMemory given = tt

@@ -14,6 +14,7 @@ use Rattle.ssa_json.specs.Moment.{is_moment}
 use Rattle.ssa_json.specs.Reading.{json_reading}
 use Rattle.ssa_json.specs.Readings.{readings}
 use Rattle.ssa_json.specs.View.{view}
+use Rattle.ssa_path.specs.Subresources.{part_view}
 use Rattle.ssa_merge.specs.EntryReading.{Says, SaysIn, TellsOwned, members_saying, owning}
 use Rattle.ssa_merge.specs.GivenEntries.{GivesEntries}
 use Rattle.ssa_merge.specs.Managers.{operation_view}
@@ -46,7 +47,7 @@ module _ (body : Body) (version : Text) (before : Table) where
   -- the entry that the members of a value say
   abbrev pub entry_of : Said → Entry
   entry_of s = record {
-    manager = record { name = s.name.now; operation = operation_view s.operation };
+    manager = record { name = s.name.now; operation = operation_view s.operation; part = part_view s.part };
     owned = said_set json_reading (view s.fields.now);
     moment = s.time.now;
   }
@@ -72,7 +73,7 @@ module _ (body : Body) (version : Text) (before : Table) where
   as_said ms s says =
       let word : operation_in ms ≡ operation_view s.operation = ap (λ o. elim o as (λ _. Operation) [ Some x ↦ x | None ↦ applies ]) (sym says.operation) in
       let same : said_entry readings ms ≡ entry_of s = λ i. record {
-        manager = record { name = sym says.name i; operation = word i };
+        manager = record { name = sym says.name i; operation = word i; part = sym says.part i };
         owned = said_set json_reading (sym says.fields i);
         moment = sym says.time i;
       } in
@@ -91,13 +92,13 @@ module _ (body : Body) (version : Text) (before : Table) where
   pub passed : (v : Json) (s : Said) (name : Text) (owned : PathSet) (moment : Text) → SaysIn v s → is_manager_name s.name.now ≡ true
       → same_text s.version.now version ≡ true → is_moment s.time.now ≡ true
       → fields_faults json_reading (view s.fields.now) ≡ [] → name ≡ s.name.now → owned ≡ said_set json_reading (view s.fields.now) → moment ≡ s.time.now
-      → entry v ≡ result_of (owned_fault body before (owning (record { name = name; operation = operation_view s.operation }) owned))
-      (record { manager = record { name = name; operation = operation_view s.operation }; owned = owned; moment = moment })
+      → entry v ≡ result_of (owned_fault body before (owning (record { name = name; operation = operation_view s.operation; part = part_view s.part }) owned))
+      (record { manager = record { name = name; operation = operation_view s.operation; part = part_view s.part }; owned = owned; moment = moment })
   passed v s name owned moment says named same timed faultless name_is owned_is moment_is =
       in_order v s says
       ∙ (λ i. result_of (fault_in (named i) (same i) (timed i) (faultless i) (owned_fault body before (entry_of s))) (entry_of s))
       ∙ (λ i. let e : Entry = record {
-        manager = record { name = sym name_is i; operation = operation_view s.operation };
+        manager = record { name = sym name_is i; operation = operation_view s.operation; part = part_view s.part };
         owned = sym owned_is i;
         moment = sym moment_is i;
       } in
@@ -115,8 +116,8 @@ module _ (body : Body) (version : Text) (before : Table) where
 -- a value is that with the members of an entry that says the same version, paths, name and moment
 pub whole : (v : Json) (s : Said) (version name : Text) (fields : Json) (moment : Text) → SaysIn v s → s.version.now ≡ version → name ≡ s.name.now
     → fields ≡ view s.fields.now → moment ≡ s.time.now
-    → object (members_saying version fields name (operation_view s.operation) moment) ≡ v
-whole (object ms) s version name fields moment says v n f t = (λ i. object (members_saying (sym v i) (f i) (n i) (operation_view s.operation) (t i)))
+    → object (members_saying version fields name (operation_view s.operation) (part_view s.part) moment) ≡ v
+whole (object ms) s version name fields moment says v n f t = (λ i. object (members_saying (sym v i) (f i) (n i) (operation_view s.operation) (part_view s.part) (t i)))
     ∙ ap object (sym says.whole)
 whole (scalar x) s version name fields moment says v n f t = absurd says
 whole (list vs) s version name fields moment says v n f t = absurd says

@@ -10,13 +10,15 @@ use Rattle.std.specs.Cmp.Lexicographic.{slice_cmp, nat_list_cmp_total}
 use Rattle.std.specs.FinMap.{slice_cmp-IsAntisymmetric, nat_cmp-IsAntisymmetric}
 use Rattle.std.specs.FinMap.Entries.{find, is_sorted, below_all, same_entries}
 use Rattle.ssa_model.specs.definitions.Json.{Text, Json, scalar, text, Members, no_members, member, member_of, same_text}
-use Rattle.ssa_model.specs.definitions.Commands.{text_in, value_in}
+use Rattle.ssa_model.specs.definitions.Commands.{text_in, value_in, is_subresource, subresource_in}
 use Rattle.ssa_model.specs.definitions.Entries.{operation_text, text_json}
 use Rattle.ssa_model.specs.definitions.GivenEntries.{entry_texts, is_entry_member, are_entry_members, operation_of, text_at, fields_in}
+use Rattle.ssa_model.specs.definitions.Parts.{Subresource, main, status}
 use Rattle.ssa_model.specs.definitions.Schema.{has_member, is_text}
 use Rattle.ssa_model.specs.definitions.Table.{Operation, applies, updates}
 use Rattle.ssa_json.specs.View.{view, members_view}
 use Rattle.ssa_json.specs.declared.value.Json as json
+use Rattle.ssa_path.specs.PartMembers.{part_in}
 use Rattle.ssa_model.proofs.Tables.{same_text-true}
 use Rattle.ssa_merge.specs.EntryReading.{members_saying}
 use Rattle.ssa_model.proofs.Basics.{some-same as some-is}
@@ -42,6 +44,14 @@ text-is : (v : Json) → is_text v ≡ true → v ≡ text_json (text_in (Some v
 text-is (scalar (text t)) h = refl
 text-is _ h = absurd (true≢false (sym h))
 
+-- a member that is a text, or a subresource's name under another name, is a text
+only-text : (v : Json) → (is_text v || false) ≡ true → is_text v ≡ true
+only-text v h = elim (is_text v) as (λ b. (b || false) ≡ true → b ≡ true) [ true ↦ λ _. refl | false ↦ λ k. k ] h
+
+subresource-is : (v : Json) → is_subresource v ≡ true → v ≡ text_json (codes "status")
+subresource-is (scalar (text t)) h = ap text_json (same_text-true t (codes "status") h)
+subresource-is _ h = absurd (true≢false (sym h))
+
 -- a member that is a text wherever it stands
 text-there : (ms : Members) (n : Text) → are_entry_members ms ≡ true → has_member n ms ≡ true → ((v : Json) → is_entry_member n v ≡ true → is_text v ≡ true)
     → member_of n ms ≡ Some (text_json (text_at n ms))
@@ -55,6 +65,15 @@ fields-there : (ms : Members) → has_member (codes "fieldsV1") ms ≡ true → 
 fields-there ms has =
     elim (member_of (codes "fieldsV1") ms) as (λ o. is_some o ≡ true
     → o ≡ Some (value_in o)) [ None ↦ λ none. absurd (true≢false (sym none)) | Some v ↦ λ _. refl ] has
+
+-- members of an entry tell a part
+pub part-told : (ms : Members) → are_entry_members ms ≡ true
+    → part_in (member_of (codes "subresource") ms) ≡ Some (subresource_in (member_of (codes "subresource") ms))
+part-told ms are =
+    elim (member_of (codes "subresource") ms) as (λ o. member_of (codes "subresource") ms ≡ o → part_in o ≡ Some (subresource_in o)) [
+      | None ↦ λ _. refl
+      | Some v ↦ λ is. ap (λ t. if t then Some status else None) (member-tested ms (codes "subresource") v are is)
+    ] refl
 
 -- a text that says an operation is the word of that operation
 pub operation-word : (t : Text) (o : Operation) → operation_of t ≡ Some o → t ≡ operation_text o
@@ -108,12 +127,27 @@ unfolding IsStrictlySortedBy
 pairs-sorted [] h = tt
 pairs-sorted (e ∷ es) h = T-both _ _ (sorted-below e es h.0) (pairs-sorted es h.1)
 
--- ---- the six members
+-- ---- the members of an entry
 
-abbrev six : Text → Json → Text → Operation → Text → List Pair
-six version fields name operation time =
+abbrev behind : Subresource → Text → List Pair
+behind main time = (codes "time", text_json time) ∷ []
+behind status time = (codes "subresource", text_json (codes "status")) ∷ (codes "time", text_json time) ∷ []
+
+abbrev given : Text → Json → Text → Operation → Subresource → Text → List Pair
+given version fields name operation part time =
     (codes "apiVersion", text_json version) ∷ (codes "fieldsType", text_json (codes "FieldsV1")) ∷ (codes "fieldsV1", fields)
-    ∷ (codes "manager", text_json name) ∷ (codes "operation", text_json (operation_text operation)) ∷ (codes "time", text_json time) ∷ []
+    ∷ (codes "manager", text_json name) ∷ (codes "operation", text_json (operation_text operation)) ∷ behind part time
+
+given-sorted : (version : Text) (fields : Json) (name : Text) (o : Operation) (part : Subresource) (time : Text)
+    → T (is_sorted (slice_cmp nat_cmp) (given version fields name o part time))
+given-sorted version fields name o main time = tt
+given-sorted version fields name o status time = tt
+
+given-says : (version : Text) (fields : Json) (name : Text) (o : Operation) (part : Subresource) (time : Text)
+    → as_members (given version fields name o part time) ≡ members_saying version fields name o part time
+unfolding as_members
+given-says version fields name o main time = refl
+given-says version fields name o status time = refl
 
 module _ (ms : Members) (are : are_entry_members ms ≡ true) where
   at : (n q : Text) (v : Json) (rest : Option Json) → member_of n ms ≡ Some v → (same_text q n ≡ false → member_of q ms ≡ rest)
@@ -128,25 +162,41 @@ module _ (ms : Members) (are : are_entry_members ms ≡ true) where
       → member_of n ms ≡ Some (text_json (text_at n ms))
   text-at n has tests = text-there ms n are has tests
 
+  -- a subresource stands before the moment, where there is one
+  part-at : (q time : Text) → (same_text q (codes "subresource") ≡ false → member_of q ms ≡ find (slice_cmp nat_cmp) q (behind main time))
+      → member_of q ms ≡ find (slice_cmp nat_cmp) q (behind (subresource_in (member_of (codes "subresource") ms)) time)
+  part-at q time other =
+      elim (member_of (codes "subresource") ms) as (λ o. member_of (codes "subresource") ms ≡ o
+      → member_of q ms ≡ find (slice_cmp nat_cmp) q (behind (subresource_in o) time)) [
+        | Some v ↦ λ is. at (codes "subresource") q _ _ (is ∙ ap Some (subresource-is v (member-tested ms (codes "subresource") v are is))) other
+        | None ↦ λ none. elim (same_text q (codes "subresource")) as (λ t. same_text q (codes "subresource") ≡ t
+            → member_of q ms ≡ find (slice_cmp nat_cmp) q (behind main time)) [
+              | true ↦ λ t. let is = same_text-true q (codes "subresource") t in
+                  ap (λ x. member_of x ms) is ∙ none ∙ ap (λ x. find (slice_cmp nat_cmp) x (behind main time)) (sym is)
+              | false ↦ λ f. other f
+            ] refl
+      ] refl
+
   alike : (o : Operation) (q : Text) → list_all (λ n. has_member n ms) (codes "fieldsV1" ∷ entry_texts) ≡ true
       → same_text (text_at (codes "fieldsType") ms) (codes "FieldsV1") ≡ true → operation_of (text_at (codes "operation") ms) ≡ Some o
-      → member_of q ms ≡ find (slice_cmp nat_cmp) q (six (text_at (codes "apiVersion") ms) (fields_in ms) (text_at (codes "manager") ms) o
-      (text_at (codes "time") ms))
+      → member_of q ms ≡ find (slice_cmp nat_cmp) q (given (text_at (codes "apiVersion") ms) (fields_in ms) (text_at (codes "manager") ms) o
+      (subresource_in (member_of (codes "subresource") ms)) (text_at (codes "time") ms))
   alike o q all kind word =
       let a = second_so (has_member (codes "fieldsV1") ms) _ all in
       let b = second_so (has_member (codes "apiVersion") ms) _ a in
       let c = second_so (has_member (codes "fieldsType") ms) _ b in
       let d = second_so (has_member (codes "manager") ms) _ c in
       let e = second_so (has_member (codes "operation") ms) _ d in
-      at (codes "apiVersion") q _ _ (text-at (codes "apiVersion") (first_so (has_member (codes "apiVersion") ms) _ a) (λ v h. h)) (λ f0.
-      at (codes "fieldsType") q _ _ (text-at (codes "fieldsType") (first_so (has_member (codes "fieldsType") ms) _ b) (λ v h. h)
+      at (codes "apiVersion") q _ _ (text-at (codes "apiVersion") (first_so (has_member (codes "apiVersion") ms) _ a) only-text) (λ f0.
+      at (codes "fieldsType") q _ _ (text-at (codes "fieldsType") (first_so (has_member (codes "fieldsType") ms) _ b) only-text
       ∙ ap (λ t. Some (text_json t)) (same_text-true _ _ kind)) (λ f1.
       at (codes "fieldsV1") q _ _ (fields-there ms (first_so (has_member (codes "fieldsV1") ms) _ all)) (λ f2.
-      at (codes "manager") q _ _ (text-at (codes "manager") (first_so (has_member (codes "manager") ms) _ c) (λ v h. h)) (λ f3.
-      at (codes "operation") q _ _ (text-at (codes "operation") (first_so (has_member (codes "operation") ms) _ d) (λ v h. h)
+      at (codes "manager") q _ _ (text-at (codes "manager") (first_so (has_member (codes "manager") ms) _ c) only-text) (λ f3.
+      at (codes "operation") q _ _ (text-at (codes "operation") (first_so (has_member (codes "operation") ms) _ d) only-text
       ∙ ap (λ t. Some (text_json t)) (operation-word _ o word)) (λ f4.
-      at (codes "time") q _ _ (text-at (codes "time") (first_so (has_member (codes "time") ms) _ e) (λ v h. h)) (λ f5.
-      other-none ms q are (λ v i. f2 i || ((f0 i || (f1 i || (f3 i || (f4 i || (f5 i || false))))) && is_text v))))))))
+      part-at q (text_at (codes "time") ms) (λ f6.
+      at (codes "time") q _ _ (text-at (codes "time") (first_so (has_member (codes "time") ms) _ e) only-text) (λ f5.
+      other-none ms q are (λ v i. f2 i || (((f0 i || (f1 i || (f3 i || (f4 i || (f5 i || false))))) && is_text v) || (f6 i && is_subresource v))))))))))
 
 -- the members of a map that are an entry's are those that it is written with
 pub members-whole : (es : List Found) (o : Operation) → IsStrictlySortedBy string_cmp (keys_of es) → are_entry_members (members_view es) ≡ true
@@ -154,11 +204,16 @@ pub members-whole : (es : List Found) (o : Operation) → IsStrictlySortedBy str
     → same_text (text_at (codes "fieldsType") (members_view es)) (codes "FieldsV1") ≡ true
     → operation_of (text_at (codes "operation") (members_view es)) ≡ Some o
     → members_view es ≡ members_saying (text_at (codes "apiVersion") (members_view es)) (fields_in (members_view es))
-    (text_at (codes "manager") (members_view es)) o (text_at (codes "time") (members_view es))
-unfolding as_members
+    (text_at (codes "manager") (members_view es)) o (subresource_in (member_of (codes "subresource") (members_view es)))
+    (text_at (codes "time") (members_view es))
 members-whole es o sorted are all kind word =
     let ms = members_view es in
-    let given = six (text_at (codes "apiVersion") ms) (fields_in ms) (text_at (codes "manager") ms) o (text_at (codes "time") ms) in
+    let version = text_at (codes "apiVersion") ms in
+    let name = text_at (codes "manager") ms in
+    let part = subresource_in (member_of (codes "subresource") ms) in
+    let time = text_at (codes "time") ms in
     members-are es
-    ∙ ap as_members (same_entries (slice_cmp nat_cmp) nat_list_cmp_total (slice_cmp-IsAntisymmetric nat_cmp-IsAntisymmetric) (pairs es) given
-    (pairs-sorted es sorted) tt (λ q. find-member es q ∙ alike ms are o q all kind word))
+    ∙ ap as_members (same_entries (slice_cmp nat_cmp) nat_list_cmp_total (slice_cmp-IsAntisymmetric nat_cmp-IsAntisymmetric) (pairs es)
+    (given version (fields_in ms) name o part time) (pairs-sorted es sorted) (given-sorted version (fields_in ms) name o part time)
+    (λ q. find-member es q ∙ alike ms are o q all kind word))
+    ∙ given-says version (fields_in ms) name o part time

@@ -5,9 +5,11 @@ use Rattle.ssa_model.specs.definitions.Json.{Text}
 use Rattle.ssa_model.specs.definitions.Kind.{Kind}
 use Rattle.ssa_model.specs.definitions.Fitting.{IsBodyOf}
 use Rattle.ssa_model.specs.definitions.Body.{Body}
+use Rattle.ssa_model.specs.definitions.Parts.{part_of}
 use Rattle.ssa_model.specs.definitions.Table.{ManagerKey}
 use Rattle.ssa_model.specs.definitions.Operations.{State, apply, update}
 use Rattle.ssa_model.proofs.Accepted.{applied_is, updated_is}
+use Rattle.ssa_model.proofs.BodyParts.{part-is-body, spliced-is-body}
 use Rattle.ssa_model.proofs.Pruned.{pruned_fits}
 use Rattle.ssa_merge.specs.Plans.{IsPlanned}
 use Rattle.ssa_merge.specs.declared.plan.Plan.{Plan}
@@ -19,11 +21,12 @@ module _ (kind : Kind) where
 
   apply_fits : (state : State) (a : ManagerKey) (config : Body) (force : Bool) (at : Text) (after : State) → IsBodyOf kind state.body → IsBodyOf kind config
       → apply state a config force at ≡ Ok after → IsBodyOf kind after.body
-  apply_fits state a config force at after g h e = subst of_kind (applied_is state after a config force at e).0 (pruned_fits kind state a config g h)
+  apply_fits state a config force at after g h e =
+      subst of_kind (applied_is state after a config force at e).0 (pruned_fits kind state a (part_of a.part config) g (part-is-body kind a.part config h))
 
-  update_fits : (state : State) (u : ManagerKey) (object : Body) (at : Text) (after : State) → IsBodyOf kind object → update state u object at ≡ Ok after
-      → IsBodyOf kind after.body
-  update_fits state u object at after h e = subst of_kind (updated_is state after u object at e).0 h
+  update_fits : (state : State) (u : ManagerKey) (object : Body) (at : Text) (after : State) → IsBodyOf kind state.body → IsBodyOf kind object
+      → update state u object at ≡ Ok after → IsBodyOf kind after.body
+  update_fits state u object at after g h e = subst of_kind (updated_is state after u object at e).0 (spliced-is-body kind u.part object state.body h g)
 
 -- ---- of plans
 
@@ -34,8 +37,8 @@ pub applied_fits : (state : State) (a : ManagerKey) (config : Body) (force : Boo
 applied_fits state a config force at (Ok p) h = λ kind g k. subst (of_kind kind) (sym h.2.target_is) (apply_fits kind state a config force at h.0 g k h.1)
 applied_fits state a config force at (Err f) h = tt
 
--- the body that an Update is planned to lead to is of the kind that its object is of
+-- the body that an Update is planned to lead to is of the kind that the live body and its object are of
 pub updated_fits : (state : State) (u : ManagerKey) (object : Body) (at : Text) (r : Result Plan Refusal) → IsPlanned state r (update state u object at)
-    → IfOk r (λ p. (kind : Kind) → IsBodyOf kind object → IsBodyOf kind p.target.body)
-updated_fits state u object at (Ok p) h = λ kind k. subst (of_kind kind) (sym h.2.target_is) (update_fits kind state u object at h.0 k h.1)
+    → IfOk r (λ p. (kind : Kind) → IsBodyOf kind state.body → IsBodyOf kind object → IsBodyOf kind p.target.body)
+updated_fits state u object at (Ok p) h = λ kind g k. subst (of_kind kind) (sym h.2.target_is) (update_fits kind state u object at h.0 g k h.1)
 updated_fits state u object at (Err f) h = tt

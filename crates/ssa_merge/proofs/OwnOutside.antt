@@ -1,5 +1,5 @@
 -- What a manager owns outside its part, and configurations that have nothing there.
-use Rattle.std.proofs.Common.{◌≡◌, [], ◌∷◌, Bool, true, false, not, ◌&&◌, ◌||◌, refl, sym, ap, subst, ◌∙◌}
+use Rattle.std.proofs.Common.{◌≡◌, [], ◌∷◌, Bool, true, false, not, ◌&&◌, ◌||◌, refl, sym, ap, ◌∙◌, true≢false}
 use Rattle.std.specs.Prelude.{Option, Some, None, option_map, if◌then◌else◌}
 use Rattle.ssa_model.specs.definitions.Body as model
 use Rattle.ssa_model.specs.definitions.Body.{Content, leaf, atom, record_branch, dict_branch, list_branch, is_point, points, restricted_content}
@@ -10,6 +10,7 @@ use Rattle.ssa_model.specs.definitions.PathMap.{PathSet, empty, get, has, is_emp
 use Rattle.ssa_model.specs.definitions.Table.{ManagerKey, Entry, Table, entry_of, owned_by}
 use Rattle.ssa_model.proofs.FittingTables.{no-path}
 use Rattle.ssa_model.proofs.PathMaps.{get-restricted, has-paths, has-points, has-set_of, is_one_of}
+use Rattle.ssa_model.proofs.Tables.{has-restricted}
 use Rattle.ssa_typed.specs.Alike.{AreAlike, are_alike}
 use Rattle.ssa_merge.specs.InPart.{IsOfPart}
 use Rattle.ssa_merge.proofs.GivenUp.{owned-entry, set_in, union-none}
@@ -19,7 +20,7 @@ pub outside-of : (table : Table) (a : ManagerKey) (o : Option Entry) → o ≡ e
     → set_of (paths (set_in o)) (λ p. not (is_path_of a.part p)) ≡ owned_outside table a
 outside-of table a o is = λ i. set_of (paths ((ap set_in is ∙ sym (owned-entry table a)) i)) (λ p. not (is_path_of a.part p))
 
-nobody : (s : Subresource) → is_empty (set_of (paths empty) (λ p. not (is_path_of s p))) ≡ true
+nobody : (s : Subresource) → is_empty (set_of (paths (set_in None)) (λ p. not (is_path_of s p))) ≡ true
 nobody s = refl
 
 -- who has no entry owns nothing outside its part
@@ -27,11 +28,10 @@ pub outside-none : (table : Table) (a : ManagerKey) (own : PathSet) → None ≡
 outside-none table a own is = union-none own (owned_outside table a) (ap is_empty (sym (outside-of table a None is)) ∙ nobody a.part)
 
 -- where a configuration has nothing outside the part, nor have its points
-in-it : (point m : Bool) (there : Bool) → (there ≡ true → m ≡ true) → ((there && point) && not m) ≡ false
-in-it point true true h = refl
-in-it true false true h = ap not (h refl)
-in-it false m true h = refl
-in-it point m false h = refl
+in-it : (there point m : Bool) → (there ≡ true → m ≡ true) → ((there && point) && not m) ≡ false
+in-it true true m h = ap not (h refl)
+in-it true false m h = refl
+in-it false point m h = refl
 
 -- who owns the points of a configuration of its part owns nothing outside it
 pub none-outside : (table : Table) (a : ManagerKey) (config : model.Body) → IsOfPart a.part config → owned_by table a ≡ points config
@@ -45,7 +45,7 @@ none-outside table a config within own =
   where
     at : (p : Path) → ((has config p && is_point config p) && not (is_path_of a.part p)) ≡ false
     at [] = elim (has config []) as (λ b. ((b && is_point config []) && not (is_path_of a.part [])) ≡ false) [ true ↦ refl | false ↦ refl ]
-    at (e ∷ p) = in-it (is_point config (e ∷ p)) (is_path_of a.part (e ∷ p)) (has config (e ∷ p)) (within (e ∷ p) refl)
+    at (e ∷ p) = in-it (has config (e ∷ p)) (is_point config (e ∷ p)) (is_path_of a.part (e ∷ p)) (within (e ∷ p) refl)
 
 -- what is cut to a part is of it
 pub part-within : (s : Subresource) (config : model.Body) → IsOfPart s (part_of s config)

@@ -12,12 +12,14 @@ use Rattle.ssa_model.specs.definitions.Table.{ManagerKey, is_in_table, owned_by}
 use Rattle.ssa_model.specs.definitions.Operations as model
 use Rattle.ssa_model.specs.definitions.Operations.{State, owned_outside, pruned, apply, update, strip}
 use Rattle.ssa_model.specs.definitions.Valid.{IsRooted, IsValidState, KeepsOrder, has_distinct_keys}
+use Rattle.ssa_model.specs.laws.KeepsValid.{StaysOutside}
 use Rattle.ssa_model.proofs.Accepted.{applied_is, updated_is}
+use Rattle.ssa_model.proofs.Outside.{apply_stays_in_part, update_stays_in_part}
 use Rattle.ssa_model.proofs.SharedManagers.{operations_keep_order}
 use Rattle.ssa_model.proofs.ValidStates.{apply_keeps_valid, update_keeps_valid, strip_keeps_valid}
 use Rattle.ssa_merge.specs.States.{state_view}
 use Rattle.ssa_merge.specs.TableChanges.{changed_table, LeadsTo}
-use Rattle.ssa_merge.specs.Plans.{changed_state, ChangesInOrder, IsChange, IsChanged, IsPlan, IsPlanned}
+use Rattle.ssa_merge.specs.Plans.{body_after, changed_state, ChangesInOrder, IsChange, IsChanged, IsPlan, IsPlanned}
 use Rattle.ssa_merge.specs.declared.change.Change.{Change}
 use Rattle.ssa_merge.specs.declared.change.NewBody.TheVariants.{Same}
 use Rattle.ssa_merge.specs.declared.table_change.TableChange.{TableChange}
@@ -81,6 +83,21 @@ updated_order state u object at (Ok c) h = λ distinct.
     (subst (λ s. KeepsOrder state.table s.table) (updated_is state h.0 u object at h.1).0
     (operations_keep_order state.table u owned (union changed gone) changed at distinct))
 updated_order state u object at (Err f) h = tt
+
+-- an Apply changes nothing outside its manager's part
+pub applied_outside : (state : State) (a : ManagerKey) (config : Body) (force : Bool) (at : Text) (r : Result Change Refusal)
+    → IsChanged state r (apply state a config force at)
+    → IfOk r (λ c. (kind : Kind) → IsValidState kind state → StaysOutside a.part state.body (body_after c.body c.comparison.removed state.body))
+applied_outside state a config force at (Ok c) h = λ kind valid.
+    subst (StaysOutside a.part state.body) (sym h.2.body_is) (apply_stays_in_part kind state h.0 a config force at valid h.1)
+applied_outside state a config force at (Err f) h = tt
+
+-- nor does an Update
+pub updated_outside : (state : State) (u : ManagerKey) (object : Body) (at : Text) (r : Result Change Refusal) → IsChanged state r (update state u object at)
+    → IfOk r (λ c. StaysOutside u.part state.body (body_after c.body c.comparison.removed state.body))
+updated_outside state u object at (Ok c) h =
+    subst (StaysOutside u.part state.body) (sym h.2.body_is) (update_stays_in_part state h.0 u object at h.1)
+updated_outside state u object at (Err f) h = tt
 
 no_shared : (bs : List ManagerKey) → filter (is_in_table []) bs ≡ []
 no_shared [] = refl

@@ -2,14 +2,17 @@
 use Rattle.std.specs.Prelude.{◌≡◌, List, [], ◌∷◌, true, false, Option, Some, None, Result, Ok, Err, codes}
 use Rattle.arrayvec.specs.ArrayVec.{ArrayVec}
 use Rattle.ssa_json.specs.View.{view}
-use Rattle.ssa_model.specs.definitions.Json.{Text, Json, scalar, list, object, Members, no_members, member}
+use Rattle.ssa_model.specs.definitions.Json.{Text, Json, scalar, list, object, Members, no_members, member, member_of}
+use Rattle.ssa_model.specs.definitions.Parts.{Subresource}
 use Rattle.ssa_model.specs.definitions.Path.{Path}
 use Rattle.ssa_model.specs.definitions.PathMap.{PathSet}
-use Rattle.ssa_model.specs.definitions.Entries.{operation_text, text_json}
+use Rattle.ssa_model.specs.definitions.Commands.{subresource_in}
+use Rattle.ssa_model.specs.definitions.Entries.{operation_text, part_members, text_json}
 use Rattle.ssa_model.specs.definitions.GivenEntries as model
 use Rattle.ssa_model.specs.definitions.GivenEntries.{is_entry, text_at, fields_in, operation_of}
 use Rattle.ssa_model.specs.definitions.Table as table
 use Rattle.ssa_model.specs.definitions.Table.{ManagerKey, Table}
+use Rattle.ssa_path.specs.Subresources.{part_view}
 use Rattle.ssa_path.specs.declared.element_fault.ElemFault.{ElemFault}
 use Rattle.ssa_path.specs.declared.element_fault.ElemFault.TheVariants as fields
 use Rattle.ssa_merge.specs.declared.entry_fault.EntryFault.{EntryFault}
@@ -32,24 +35,25 @@ first_of (p ∷ ps) = Some p
 -- ---- what an entry says
 
 -- the members of an entry that says this
-abbrev pub members_saying : Text → Json → Text → table.Operation → Text → Members
-members_saying version fields name operation time =
+abbrev pub members_saying : Text → Json → Text → table.Operation → Subresource → Text → Members
+members_saying version fields name operation part time =
     member (codes "apiVersion") (text_json version)
     (member (codes "fieldsType") (text_json (codes "FieldsV1"))
     (member (codes "fieldsV1") fields
     (member (codes "manager") (text_json name)
     (member (codes "operation") (text_json (operation_text operation))
-    (member (codes "time") (text_json time) no_members)))))
+    (part_members part (member (codes "time") (text_json time) no_members))))))
 
 -- the members are an entry's, and say this
 pub record Says (ms : Members) (s : Said) : Type 0 where
   pub entry : is_entry ms ≡ true
   pub name : s.name.now ≡ text_at (codes "manager") ms
   pub operation : Some (operation_view s.operation) ≡ operation_of (text_at (codes "operation") ms)
+  pub part : part_view s.part ≡ subresource_in (member_of (codes "subresource") ms)
   pub version : s.version.now ≡ text_at (codes "apiVersion") ms
   pub time : s.time.now ≡ text_at (codes "time") ms
   pub fields : view s.fields.now ≡ fields_in ms
-  pub whole : ms ≡ members_saying s.version.now (view s.fields.now) s.name.now (operation_view s.operation) s.time.now
+  pub whole : ms ≡ members_saying s.version.now (view s.fields.now) s.name.now (operation_view s.operation) (part_view s.part) s.time.now
 
 abbrev pub IsNoEntry : Json → Type 0
 IsNoEntry (object ms) = is_entry ms ≡ false

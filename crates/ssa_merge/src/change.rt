@@ -1,20 +1,20 @@
 //! What a command changes of a state, told without what stays.
-ghost use Rattle.std.specs.Prelude.{◌≡◌, ◌≤◌, true, if◌then◌else◌, unwrap_or, IfOk, None};
+ghost use Rattle.std.specs.Prelude.{◌≡◌, true, if◌then◌else◌, unwrap_or, IfOk, None};
 ghost use Rattle.ssa_model.specs.definitions.Body.{Body as ModelBody, modified, points};
 ghost use Rattle.ssa_model.specs.definitions.Fitting.{IsBodyOf};
 ghost use Rattle.ssa_model.specs.definitions.History.{is_manager_name};
 ghost use Rattle.ssa_model.specs.definitions.Kind.{Kind};
-ghost use Rattle.ssa_model.specs.definitions.Limits.{most_places};
-ghost use Rattle.ssa_model.specs.definitions.PathMap.{minus, size, union};
+ghost use Rattle.ssa_model.specs.definitions.PathMap.{minus, union};
 ghost use Rattle.ssa_model.specs.definitions.Table.{applies, key_of, owned_by, updates};
 ghost use Rattle.ssa_model.specs.definitions.Operations as model;
 ghost use Rattle.ssa_model.specs.definitions.Operations.{apply, apply_part, clashes, owned_outside, pruned, strip, update, update_to};
 ghost use Rattle.ssa_model.specs.definitions.Valid.{AllEntries, IsValidState, OwnsOwnable};
+ghost use Rattle.ssa_model.specs.laws.KeepsValid.{StaysOutside};
+ghost use Rattle.ssa_path.specs.Subresources.{part_view};
 ghost use Rattle.ssa_typed.specs.Alike.{AreAlike};
 ghost use Rattle.ssa_typed.specs.Differences.{IsComparison, IsPartComparison};
 ghost use Rattle.ssa_merge.specs.InPart.{IsOfPart};
 ghost use Rattle.ssa_merge.specs.Managers.{conflict_view, key_view, operation_view};
-ghost use Rattle.ssa_path.specs.Subresources.{part_view};
 ghost use Rattle.ssa_merge.specs.States.{actor, state_view};
 ghost use Rattle.ssa_merge.specs.Plans.{body_after, changed_state, conflict_of, CanStand, ChangesInOrder, HasRoom, IsChange, IsChanged, IsPlan};
 
@@ -172,14 +172,16 @@ fn with_outside(
 ) -> Result<FieldSet, AllocError>
     ensures { IfOk result (λ s. s ≡ union points (owned_outside state.now.managers (key_view key.now))) }
 {
-    let Some(entry) = state.managers.get(key) else {
-        return Ok(points);
-    };
-    let outside = entry.set.outside(alloc, key.part)?;
-    if outside.is_empty() {
-        return Ok(points);
+    match state.managers.get(key) {
+        Some(entry) => {
+            let outside = entry.set.outside(alloc, key.part)?;
+            if outside.is_empty() {
+                return Ok(points);
+            }
+            points.union(alloc, &outside)
+        }
+        None => Ok(points),
     }
-    points.union(alloc, &outside)
 }
 
 // What an Apply of a configuration without a conflict changes. Mostly the manager owns the points of its configuration
@@ -256,6 +258,7 @@ pub fn change_apply(
     ensures change { IsChanged (state_view state.now) result (apply (state_view state.now) (key_of applies (actor who.now (part_view part))) config force at) }
     ensures valid { IfOk result (λ c. (kind : Kind) → IsValidState kind (state_view state.now) → IsBodyOf kind config → IsValidState kind (changed_state (state_view state.now) c.body c.comparison.removed c.table)) }
     ensures order { IfOk result (ChangesInOrder (state_view state.now)) }
+    ensures outside { IfOk result (λ c. (kind : Kind) → IsValidState kind (state_view state.now) → StaysOutside (part_view part) state.now.body (body_after c.body c.comparison.removed state.now.body)) }
     ensures stands { IfOk result (λ c. CanStand c.body c.comparison.removed state.now.body) }
 {
     let key = key_of(alloc, who, Operation::Apply, part)?;
@@ -364,11 +367,11 @@ pub fn change_update(
     ensures change { IsChanged (state_view state.now) result (update (state_view state.now) (key_of updates (actor who.now (part_view part))) object at) }
     ensures valid { IfOk result (λ c. (kind : Kind) → IsValidState kind (state_view state.now) → IsBodyOf kind object → IsValidState kind (changed_state (state_view state.now) c.body c.comparison.removed c.table)) }
     ensures order { IfOk result (ChangesInOrder (state_view state.now)) }
+    ensures outside { IfOk result (λ c. StaysOutside (part_view part) state.now.body (body_after c.body c.comparison.removed state.now.body)) }
     ensures stands { IfOk result (λ c. CanStand c.body c.comparison.removed state.now.body) }
 {
     let key = key_of(alloc, who, Operation::Update, part)?;
     object.stands_rooted();
-    state.body.stands_rooted();
     let body = object.splice(alloc, &state.body, part)?;
     updated(alloc, state, &key, body, at)
 }

@@ -9,6 +9,7 @@ use crate::managers::{Entry, Managers};
 use ssa_json::members::{put_member, put_text};
 use ssa_json::value::Json;
 use ssa_members::Members;
+use ssa_path::part_members::put_part;
 use std::alloc::{AllocError, Global};
 
 impl Entry {
@@ -25,9 +26,7 @@ impl Entry {
         let time = self.at.to_text(alloc)?;
         let mut members = Members::new(alloc);
         put_text(alloc, &mut members, "time", time.as_str())?;
-        if let Some(subresource) = self.key.part.subresource() {
-            put_text(alloc, &mut members, "subresource", subresource)?;
-        }
+        put_part(alloc, &mut members, self.key.part)?;
         put_text(alloc, &mut members, "operation", self.key.operation.text())?;
         put_text(alloc, &mut members, "manager", self.key.name.as_str())?;
         put_member(alloc, &mut members, "fieldsV1", fields)?;

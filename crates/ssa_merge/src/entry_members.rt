@@ -16,6 +16,7 @@ use ssa_json::text::is_same_text;
 use ssa_json::value::Json;
 use ssa_members::Members;
 use ssa_path::part::Part;
+use ssa_path::part_members::{part_of_members, part_of_name};
 
 /// What an entry says.
 #[derive(Drop)]
@@ -39,33 +40,12 @@ fn is_text_name(name: &str) -> bool
         || is_same_text(name, "time")
 }
 
-// Whether the value is the name of a subresource.
-fn is_subresource(value: &Json) -> bool
-    ensures { result ≡ is_subresource (view value.now) }
-{
-    match value.as_text() {
-        Some(text) => is_same_text(text, "status"),
-        None => false,
-    }
-}
-
-// The part that the members tell, of which a `subresource` is the name of one.
-fn part_of(members: &Members<Json>) -> Part
-    ensures { part_view result ≡ subresource_in (member_of (codes "subresource") (members_view members.now.entries)) }
-{
-    if has_member(members, "subresource") {
-        Part::Status
-    } else {
-        Part::Main
-    }
-}
-
 fn is_entry_member(name: &str, value: &Json) -> bool
     ensures { result ≡ is_entry_member name.now (view value.now) }
 {
     is_same_text(name, "fieldsV1")
         || (is_text_name(name) && value.as_text().is_some())
-        || (is_same_text(name, "subresource") && is_subresource(value))
+        || (is_same_text(name, "subresource") && part_of_name(value).is_some())
 }
 
 fn are_entry_members(members: &Members<Json>) -> bool
@@ -125,13 +105,14 @@ fn said_by(members: &Members<Json>) -> Option<Said<'_>>
         return None;
     }
     let operation = operation_of(text_at(members, "operation"))?;
+    let part = part_of_members(members)?;
     let Some(fields) = find_member(members, "fieldsV1") else {
         unreachable!("an entry has all its members");
     };
     Some(Said {
         name: text_at(members, "manager"),
         operation,
-        part: part_of(members),
+        part,
         version: text_at(members, "apiVersion"),
         time: text_at(members, "time"),
         fields,

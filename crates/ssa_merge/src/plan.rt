@@ -1,15 +1,14 @@
 //! What a command makes of a state, before it is carried out.
-ghost use Rattle.std.specs.Prelude.{◌≡◌, ◌≤◌, length, true, IfOk};
-ghost use Rattle.ssa_model.specs.definitions.Limits.{most_places};
+ghost use Rattle.std.specs.Prelude.{◌≡◌, length, true, IfOk};
 ghost use Rattle.ssa_model.specs.definitions.Fitting.{IsBodyOf};
 ghost use Rattle.ssa_model.specs.definitions.History.{is_manager_name};
 ghost use Rattle.ssa_model.specs.definitions.Kind.{Kind};
-ghost use Rattle.ssa_model.specs.definitions.PathMap.{size};
 ghost use Rattle.ssa_model.specs.definitions.Operations.{apply, update, strip};
 ghost use Rattle.ssa_model.specs.definitions.Table.{applies, key_of, updates};
 ghost use Rattle.ssa_model.specs.definitions.Valid.{AllEntries, IsValidState, OwnsOwnable};
-ghost use Rattle.ssa_typed.specs.Alike.{AreAlike};
+ghost use Rattle.ssa_model.specs.laws.KeepsValid.{StaysOutside};
 ghost use Rattle.ssa_path.specs.Subresources.{part_view};
+ghost use Rattle.ssa_typed.specs.Alike.{AreAlike};
 ghost use Rattle.ssa_merge.specs.States.{actor, state_view};
 ghost use Rattle.ssa_merge.specs.Plans.{IsPlan, IsPlanned, StandInOrder};
 ghost use Rattle.ssa_merge.specs.declared.plan.Refusal.TheVariants.{OutOfMemory};
@@ -79,10 +78,11 @@ impl Plan {
 
 /// Plans an Apply of a configuration by a manager.
 ///
-/// Of the configuration counts what it has in the part. It is put over the live body. What the manager owned in the part and the configuration leaves
-/// out is given up, and goes where nobody else needs it. A change of a field that another manager
-/// owns is a conflict, unless it is forced: then the others lose the field. The manager owns the
-/// configuration's points afterwards. See the Kubernetes documentation, "Server-Side Apply".
+/// Of the configuration counts what it has in the part. It is put over the live body. What the manager
+/// owned in the part and the configuration leaves out is given up, and goes where nobody else needs it.
+/// A change of a field that another manager owns is a conflict, unless it is forced: then the others
+/// lose the field. The manager owns the configuration's points afterwards. See the Kubernetes
+/// documentation, "Server-Side Apply".
 ///
 /// Of several refusals the first is told: `Conflict`, `TooManyPaths`, `TooManyManagers`.
 pub fn plan_apply(
@@ -101,6 +101,7 @@ pub fn plan_apply(
     ensures fits { IfOk result (λ p. (kind : Kind) → IsBodyOf kind state.now.body → IsBodyOf kind config → IsBodyOf kind p.target.body) }
     ensures valid { IfOk result (λ p. (kind : Kind) → IsValidState kind (state_view state.now) → IsBodyOf kind config → IsValidState kind (state_view p.target)) }
     ensures order { IfOk result (StandInOrder (state_view state.now)) }
+    ensures outside { IfOk result (λ p. (kind : Kind) → IsValidState kind (state_view state.now) → StaysOutside (part_view part) state.now.body p.target.body) }
 {
     let change = change_apply(alloc, state, config, who, part, force, at)?;
     let plan = change.completed(alloc, state)?;
@@ -109,8 +110,8 @@ pub fn plan_apply(
 
 /// Plans an Update to an object by a manager.
 ///
-/// The object becomes the body in the part; outside it the live body stays. The other managers lose what is modified or removed, and the manager
-/// gains what is modified or added. An Update has no conflict.
+/// The object becomes the body in the part; outside it the live body stays. The other managers lose what
+/// is modified or removed, and the manager gains what is modified or added. An Update has no conflict.
 ///
 /// Of both refusals the first is told: `TooManyPaths`, `TooManyManagers`.
 pub fn plan_update(
@@ -126,6 +127,7 @@ pub fn plan_update(
     ensures fits { IfOk result (λ p. (kind : Kind) → IsBodyOf kind state.now.body → IsBodyOf kind object → IsBodyOf kind p.target.body) }
     ensures valid { IfOk result (λ p. (kind : Kind) → IsValidState kind (state_view state.now) → IsBodyOf kind object → IsValidState kind (state_view p.target)) }
     ensures order { IfOk result (StandInOrder (state_view state.now)) }
+    ensures outside { IfOk result (λ p. StaysOutside (part_view part) state.now.body p.target.body) }
 {
     let change = change_update(alloc, state, object, who, part, at)?;
     let plan = change.completed(alloc, state)?;

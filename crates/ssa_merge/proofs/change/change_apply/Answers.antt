@@ -8,7 +8,7 @@ use Rattle.ssa_merge.specs.InPart.{IsOfPart}
 use Rattle.ssa_merge.specs.Plans.{IsChanged}
 use Rattle.ssa_merge.specs.States.{actor, state_view}
 use Rattle.ssa_merge.proofs.OwnOutside.{part-alike, part-within}
-use Rattle.ssa_merge.proofs.Valid.{applied_valid, applied_order}
+use Rattle.ssa_merge.proofs.Valid.{applied_valid, applied_order, applied_outside}
 use Rattle.ssa_merge.proofs.change.change_apply.Goals as goal
 
 pub applied-requires-clause-alike : goal.applied-requires-clause-alike
@@ -33,4 +33,9 @@ returns-clause-valid c =
 pub returns-clause-order : goal.returns-clause-order
 returns-clause-order c =
     applied_order (state_view c.args.state.now) (key_of applies (actor c.args.who.now (part_view c.args.part))) c.args.config c.args.force c.args.at c.applied.result
+    (returns-clause-change c)
+
+pub returns-clause-outside : goal.returns-clause-outside
+returns-clause-outside c =
+    applied_outside (state_view c.args.state.now) (key_of applies (actor c.args.who.now (part_view c.args.part))) c.args.config c.args.force c.args.at c.applied.result
     (returns-clause-change c)

@@ -5,7 +5,7 @@ use Rattle.ssa_model.specs.definitions.Table.{ManagerKey, key_of, updates}
 use Rattle.ssa_path.specs.Subresources.{part_view}
 use Rattle.ssa_merge.specs.Plans.{IsChanged}
 use Rattle.ssa_merge.specs.States.{actor, state_view}
-use Rattle.ssa_merge.proofs.Valid.{updated_valid, updated_order}
+use Rattle.ssa_merge.proofs.Valid.{updated_valid, updated_order, updated_outside}
 use Rattle.ssa_merge.proofs.change.change_update.Goals as goal
 
 pub returns-clause-change : goal.returns-clause-change
@@ -22,4 +22,9 @@ returns-clause-valid c =
 pub returns-clause-order : goal.returns-clause-order
 returns-clause-order c =
     updated_order (state_view c.args.state.now) (key_of updates (actor c.args.who.now (part_view c.args.part))) c.args.object c.args.at c.updated.result
+    (returns-clause-change c)
+
+pub returns-clause-outside : goal.returns-clause-outside
+returns-clause-outside c =
+    updated_outside (state_view c.args.state.now) (key_of updates (actor c.args.who.now (part_view c.args.part))) c.args.object c.args.at c.updated.result
     (returns-clause-change c)

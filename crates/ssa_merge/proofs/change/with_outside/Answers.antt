@@ -1,5 +1,6 @@
 use Rattle.std.proofs.Common.{◌∙◌, ap, sym, Some}
 use Rattle.std.proofs.lemmas.Result.{IfOk-weaker}
+use Rattle.ssa_model.specs.definitions.Operations.{owned_outside}
 use Rattle.ssa_model.specs.definitions.PathMap.{is_empty, union}
 use Rattle.ssa_merge.specs.Managers.{entry_view, key_view}
 use Rattle.ssa_merge.proofs.GivenUp.{union-none}
@@ -11,10 +12,10 @@ returns-in-None c = outside-none c.args.state.now.managers (key_view c.args.key.
 
 pub returns-then-is_empty : goal.returns-then-is_empty
 returns-then-is_empty c =
-    let outside = c.in_ok-outside.ensures ∙ outside-of c.args.state.now.managers (key_view c.args.key.now) (Some (entry_view c.in-Some.entry.now)) c.in-Some.ensures in
-    union-none c.args.points _ (ap is_empty (sym outside) ∙ sym c.is_empty.ensures ∙ c.if-is_empty.true)
+    let outside = c.in_ok-outside-in-Some.ensures ∙ outside-of c.args.state.now.managers (key_view c.args.key.now) (Some (entry_view c.in-Some.entry.now)) c.in-Some.ensures in
+    union-none c.args.points (owned_outside c.args.state.now.managers (key_view c.args.key.now)) (ap is_empty (sym outside) ∙ sym c.is_empty.ensures ∙ c.if-is_empty.true)
 
-pub returns : goal.returns
-returns c =
-    let outside = c.in_ok-outside.ensures ∙ outside-of c.args.state.now.managers (key_view c.args.key.now) (Some (entry_view c.in-Some.entry.now)) c.in-Some.ensures in
+pub returns-else-is_empty : goal.returns-else-is_empty
+returns-else-is_empty c =
+    let outside = c.in_ok-outside-in-Some.ensures ∙ outside-of c.args.state.now.managers (key_view c.args.key.now) (Some (entry_view c.in-Some.entry.now)) c.in-Some.ensures in
     IfOk-weaker c.union.result _ _ (λ s same. same ∙ ap (union c.args.points) outside) c.union.ensures
