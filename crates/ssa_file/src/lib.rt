@@ -7,7 +7,14 @@
 //! let head = json(rt.alloc(), r#"{"format":3,"future":0,"past":1}"#)?;
 //! let counts = record_counts(rt.alloc(), &head)?;
 //! let format = RecordFormat::Parts;
-//! assert_eq!(rt; counts, Some(RecordCounts { format, past: 1, future: 0 }));
+//! assert_eq!(rt;
+//!     counts,
+//!     Some(RecordCounts {
+//!         format,
+//!         past: 1,
+//!         future: 0
+//!     })
+//! );
 //! ```
 #![tactic(auto)]
 
