@@ -1,6 +1,6 @@
 -- Which members are commands.
 use Rattle.std.proofs.Common.{◌≡◌, ◌∷◌, [], List, Bool, true, false, cond, ◌||◌, refl, sym, ap, ◌∙◌, true≢false, arith, string_bytes, String, Global}
-use Rattle.std.specs.Prelude.{Option, Some, None, option_map, option_and_then, is_some, Result, Ok, Err, if◌then◌else◌, codes}
+use Rattle.std.specs.Prelude.{Option, Some, None, option_and_then, is_some, Result, Ok, Err, if◌then◌else◌, codes}
 use Rattle.std.proofs.lemmas.Bool.{and_parts}
 use Rattle.std.proofs.lemmas.Bool.Decides.{nat_tests}
 use Rattle.std.proofs.lemmas.Cmp.{eq_by_cmp_equiv, nat_list_cmp_total}
@@ -9,26 +9,23 @@ use Rattle.std.specs.BTreeMap.{is_at}
 use Rattle.std.specs.Map.{remove_entry}
 use Rattle.std.specs.Ordering.{is_eq}
 use Rattle.ssa_members.specs.Members.{text_cmp}
-use Rattle.std.specs.Cmp.Lexicographic.{slice_cmp}
 use Rattle.std.specs.Str.{bytes_eq}
 use Rattle.ssa_model.specs.definitions.Json.{Text, text, whole, truth, Json, scalar, list, object, Items, Members, no_members, member, member_of, same_text, as_text}
 use Rattle.ssa_model.specs.definitions.Schema.{has_member, is_text, list_of_texts, texts_of}
 use Rattle.ssa_model.specs.definitions.Commands as given
-use Rattle.ssa_model.specs.definitions.Commands.{MemberRule, CommandRule, rule_of, word_of, is_known_member, are_known_members, follows_rule, truth_in, text_in, texts_in, value_in, command_with}
+use Rattle.ssa_model.specs.definitions.Commands.{MemberRule, CommandRule, rule_of, word_of, is_known_member, are_known_members, follows_rule, is_subresource, subresource_in, truth_in, text_in, texts_in, value_in, command_with}
+use Rattle.ssa_model.specs.definitions.Parts.{Subresource, status}
 use Rattle.ssa_model.specs.definitions.Answers as answers
-use Rattle.ssa_model.specs.definitions.Session.{LineFault, bad_moment, command_shape, has_moment, owners_command, with_path, read_command}
-use Rattle.ssa_model.specs.definitions.ElementTexts.{path_of}
-use Rattle.ssa_json.specs.Moment.{is_moment}
-use Rattle.ssa_json.specs.Reading.{json_reading}
+use Rattle.ssa_model.specs.definitions.Session.{LineFault, bad_moment, command_shape, has_moment, with_path, read_command}
 use Rattle.ssa_json.specs.View.{view, members_view}
 use Rattle.ssa_json.specs.declared.value.Json as values
 use Rattle.ssa_model.proofs.Tables.{same_text-true}
-use Rattle.ssa_json.specs.Lookups.{view-lookup}
+use Rattle.ssa_path.specs.PartMembers.{part_in}
 use Rattle.ssa_answers.specs.declared.command_shape.Word.{Word}
 use Rattle.ssa_answers.specs.declared.command_shape.Word.TheVariants.{Apply, Update, Strip, Undo, Redo, Show, Owners, Log}
-use Rattle.ssa_told.specs.PathTexts.{as_list, given_texts}
+use Rattle.ssa_told.specs.PathTexts.{as_list}
 use Rattle.ssa_json.specs.Readings.{readings}
-use Rattle.ssa_answers.specs.Commands.{word_text, member_rules, rule_at, HasRequest, given_moment}
+use Rattle.ssa_answers.specs.Commands.{word_text, member_rules, rule_at, HasRequest}
 
 -- what a value is read as
 abbrev pub meaning : Json → Result answers.Command LineFault
@@ -111,6 +108,23 @@ text_there rules ms n known asked there =
       | Some v ↦ λ is _. is_true-or_false (is_text v) (sym (asked v) ∙ known_member rules ms n v known is)
     ] refl there
 
+-- a member that is known to be a subresource's name tells a part
+part_there : (rules : List MemberRule) (ms : Members) → are_known_members rules ms ≡ true
+    → ((v : Json) → is_known_member rules (codes "subresource") v ≡ (is_subresource v || false))
+    → is_some (part_in (member_of (codes "subresource") ms)) ≡ true
+part_there rules ms known asked =
+    elim (member_of (codes "subresource") ms) as (λ o. member_of (codes "subresource") ms ≡ o → is_some (part_in o) ≡ true) [
+      | None ↦ λ _. refl
+      | Some v ↦ λ is. ap (λ b. is_some (if b then Some status else None)) (is_true-or_false (is_subresource v) (sym (asked v)
+          ∙ known_member rules ms (codes "subresource") v known is))
+    ] refl
+
+-- the part that a member tells is the one in which a command acts
+pub part-told : (o : Option Json) (s : Subresource) → part_in o ≡ Some s → subresource_in o ≡ s
+part-told None s is = cc
+part-told (Some v) s is =
+    elim (is_subresource v) as (λ b. (if b then Some status else None) ≡ Some s → status ≡ s) [ true ↦ λ h. cc | false ↦ λ h. cc ] is
+
 -- an apply command has a moment, a manager and an object
 pub request-from_apply : (ms : Members) → follows_rule ms (rule_at Apply) ≡ true → HasRequest ms
 request-from_apply ms follows =
@@ -121,6 +135,7 @@ request-from_apply ms follows =
       text_there (member_rules Apply) ms (codes "at") parts.0 (λ v. refl) at.0,
       text_there (member_rules Apply) ms (codes "manager") parts.0 (λ v. refl) manager.0,
       object.0,
+      part_there (member_rules Apply) ms parts.0 (λ v. refl),
     )
 
 -- an update command has a moment, a manager and an object
@@ -133,6 +148,7 @@ request-from_update ms follows =
       text_there (member_rules Update) ms (codes "at") parts.0 (λ v. refl) at.0,
       text_there (member_rules Update) ms (codes "manager") parts.0 (λ v. refl) manager.0,
       object.0,
+      part_there (member_rules Update) ms parts.0 (λ v. refl),
     )
 
 -- what is there is not missing

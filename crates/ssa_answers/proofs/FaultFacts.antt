@@ -1,14 +1,17 @@
 -- The texts of faults.
-use Rattle.std.proofs.Common.{◌≡◌, ◌≢◌, refl, sym, ap, ◌∙◌}
+use Rattle.std.proofs.Common.{◌≡◌, ◌≢◌, [], ◌∷◌, ◌++◌, true, refl, sym, ap, ◌∙◌}
 use Rattle.std.specs.Prelude.{codes}
-use Rattle.ssa_model.specs.definitions.Json.{Text, Json, list, object, no_members, member, compact}
+use Rattle.ssa_model.specs.definitions.Json.{Text, list, object, no_members, member, compact, compact_members}
 use Rattle.ssa_model.specs.definitions.Path.{Path, element_text}
 use Rattle.ssa_model.specs.definitions.Kind as kinds
-use Rattle.ssa_model.specs.definitions.Entries.{text_json}
+use Rattle.ssa_model.specs.definitions.Entries.{operation_text, part_members, text_json}
+use Rattle.ssa_model.specs.definitions.Operations.{Clash}
+use Rattle.ssa_model.specs.definitions.Parts.{Subresource, main, status}
 use Rattle.ssa_model.specs.definitions.Answers.{Fault, body_fault}
 use Rattle.ssa_model.specs.definitions.GivenEntries as entries
 use Rattle.ssa_model.specs.definitions.Faults.{body_fault_code}
-use Rattle.ssa_model.specs.definitions.Replies.{with_fault, fault_json, entry_fault_json, fault_reply}
+use Rattle.ssa_model.specs.definitions.Replies.{clash_json, with_fault, fault_json, entry_fault_json, fault_reply, paths_json}
+use Rattle.ssa_path.specs.PartMembers.{part_text}
 use Rattle.ssa_schema.specs.Finds.{told}
 use Rattle.ssa_schema.specs.declared.body_fault.BodyFault.{BodyFault}
 use Rattle.ssa_answers.specs.Faults.{IsFault, bench_code}
@@ -18,7 +21,7 @@ use Rattle.ssa_merge.specs.declared.entry_fault.EntryFault.TheVariants as faults
 use Rattle.ssa_answers.specs.declared.fault.Fault as engine
 use Rattle.ssa_answers.specs.declared.fault.Fault.TheVariants.{Body, Conflict, Entry, OutOfMemory}
 use Rattle.ssa_answers.specs.Replies.{bench_json, told_json, entry_json}
-use Rattle.ssa_json.proofs.ItemTexts.{items_json-map}
+use Rattle.ssa_json.proofs.ItemTexts.{items_json-map, joined}
 
 -- ---- a fault with its path
 
@@ -49,3 +52,24 @@ bench_json-told (Body f) g is = ap told_json is.2 ∙ told_json-told is.0.fault 
 bench_json-told (Entry f) g is = entry_fault-json f is.0 is.2 ∙ ap fault_reply (sym is.1)
 bench_json-told OutOfMemory g is = absurd is
 bench_json-told _ g is = ap fault_reply (sym is)
+
+-- ---- conflicts
+
+-- what closes a clash is written behind the member of a subresource
+part-closed : (s : Subresource) → part_text s ++ 125 ∷ [] ≡ compact_members true (part_members s no_members)
+part-closed main = refl
+part-closed status = refl
+
+-- the text is that of its members, one behind another
+pub clash-written : (c : Clash) (t0 : Text) {t1 t2 t3 t4 t5 t6 t7 t8 : Text}
+    → t1 ≡ t0 ++ codes "{\"fields\":" → t2 ≡ t1 ++ compact (paths_json c.fields)
+    → t3 ≡ t2 ++ codes ",\"manager\":" → t4 ≡ t3 ++ compact (text_json c.manager.name)
+    → t5 ≡ t4 ++ codes ",\"operation\":" → t6 ≡ t5 ++ compact (text_json (operation_text c.manager.operation))
+    → t7 ≡ t6 ++ part_text c.manager.part → t8 ≡ t7 ++ 125 ∷ [] → t8 ≡ t0 ++ compact (clash_json c)
+clash-written c t0 {t1 = t1} {t2 = t2} {t3 = t3} {t4 = t4} {t5 = t5} {t6 = t6} e0 e1 e2 e3 e4 e5 e6 e7 =
+    let s = c.manager.part in
+    let from_part = joined t6 (part_text s) (125 ∷ []) e6 e7 ∙ ap (λ t. t6 ++ t) (part-closed s) in
+    let from_operation =
+    joined t4 (codes ",\"operation\":") _ e4 (joined t5 (compact (text_json (operation_text c.manager.operation))) _ e5 from_part) in
+    let from_manager = joined t2 (codes ",\"manager\":") _ e2 (joined t3 (compact (text_json c.manager.name)) _ e3 from_operation) in
+    joined t0 (codes "{\"fields\":") _ e0 (joined t1 (compact (paths_json c.fields)) _ e1 from_manager)

@@ -10,6 +10,7 @@ use Rattle.ssa_model.specs.definitions.Session.{unread, bad_moment, command_shap
 use Rattle.ssa_model.specs.definitions.ElementTexts.{bad_element, index_element, not_canonical}
 use Rattle.ssa_json.specs.Moment.{is_moment}
 use Rattle.ssa_json.specs.View.{view}
+use Rattle.ssa_path.specs.PartMembers.{part_in}
 use Rattle.ssa_path.specs.Subresources.{part_view}
 use Rattle.ssa_answers.specs.Changes as changes
 use Rattle.ssa_answers.specs.declared.command.Command.{Command}
@@ -69,12 +70,13 @@ ReadsCommand (Err OutOfMemory) r = Unit {0}
 
 -- ---- commands with a manager, a moment and an object
 
--- the members that these commands need are there
+-- the members that these commands need are there, and what stands as a subresource is the name of one
 abbrev pub HasRequest : Members → Type 0
 HasRequest ms =
     (is_some (option_and_then as_text (member_of (codes "at") ms)) ≡ true)
     × (is_some (option_and_then as_text (member_of (codes "manager") ms)) ≡ true)
     × (is_some (member_of (codes "object") ms) ≡ true)
+    × (is_some (part_in (member_of (codes "subresource") ms)) ≡ true)
 
 -- the moment that these commands give
 abbrev pub given_moment : Members → Text

@@ -4,7 +4,7 @@ ghost use Rattle.std.specs.List.{list_all};
 ghost use Rattle.ssa_json.specs.View.{view, members_view};
 ghost use Rattle.ssa_model.specs.definitions.Json.{same_text};
 ghost use Rattle.ssa_model.specs.definitions.Schema.{has_member, list_of_texts};
-ghost use Rattle.ssa_model.specs.definitions.Commands.{rule_of, word_of, is_truth, is_known_member, are_known_members, follows_rule};
+ghost use Rattle.ssa_model.specs.definitions.Commands.{rule_of, word_of, is_subresource, is_truth, is_known_member, are_known_members, follows_rule};
 ghost use Rattle.ssa_answers.specs.Commands.{word_text, member_rules, rule_at};
 
 use ssa_json::members::has_member;
@@ -75,6 +75,13 @@ fn is_list_of_texts(value: &Json) -> bool
     }
 }
 
+// Whether the value is the name of a subresource.
+fn is_subresource(value: &Json) -> bool
+    ensures { result ≡ is_subresource (view value.now) }
+{
+    part_of_name(value).is_some()
+}
+
 // Whether an update command may have the member.
 #[inline(always)]
 fn is_update_member(name: &str, value: &Json) -> bool
@@ -84,7 +91,7 @@ fn is_update_member(name: &str, value: &Json) -> bool
         || (is_same_text(name, "at") && is_text(value))
         || (is_same_text(name, "manager") && is_text(value))
         || is_same_text(name, "object")
-        || (is_same_text(name, "subresource") && part_of_name(value).is_some())
+        || (is_same_text(name, "subresource") && is_subresource(value))
 }
 
 // Whether an apply command may have the member.

@@ -185,15 +185,15 @@ fn apply_command(alloc: Global, mut members: Members<Json>) -> Result<Command, L
     ensures { ReadsCommand result (read_command readings (object (members_view members.entries))) }
 {
     let force = truth_of(&members, "force");
-    let Some(Request {
+    let Some(request) = take_request(&mut members) else {
+        return Err(LineFault::BadMoment);
+    };
+    let Request {
         who,
         part,
         at,
         object,
-    }) = take_request(&mut members)
-    else {
-        return Err(LineFault::BadMoment);
-    };
+    } = request;
     let who = String::from_str(alloc, who.as_str())?;
     Ok(Command::Change(change::Command::Apply {
         who,
@@ -210,15 +210,15 @@ fn update_command(alloc: Global, mut members: Members<Json>) -> Result<Command, 
     requires shape { IsTrue (follows_rule (members_view members.entries) (rule_at Word.Update)) }
     ensures { ReadsCommand result (read_command readings (object (members_view members.entries))) }
 {
-    let Some(Request {
+    let Some(request) = take_request(&mut members) else {
+        return Err(LineFault::BadMoment);
+    };
+    let Request {
         who,
         part,
         at,
         object,
-    }) = take_request(&mut members)
-    else {
-        return Err(LineFault::BadMoment);
-    };
+    } = request;
     let who = String::from_str(alloc, who.as_str())?;
     Ok(Command::Change(change::Command::Update {
         who,

@@ -1,18 +1,18 @@
 -- What the objects in the value of a record ask of their members, one after another.
-use Rattle.std.proofs.Common.{◌≡◌, List, Bool, true, false, ◌&&◌, ◌||◌, String, Global, string_cmp, refl, sym, ap, ◌∙◌, true≢false}
+use Rattle.std.proofs.Common.{◌≡◌, List, Bool, true, false, ◌&&◌, String, Global, string_cmp, refl, sym, ap, ◌∙◌, true≢false}
 use Rattle.std.specs.Prelude.{Option, Some, None, codes}
 use Rattle.std.specs.List.Sorted.{IsStrictlySortedBy}
 use Rattle.std.specs.Map.{keys_of}
 use Rattle.std.specs.Cmp.{first_so, second_so}
 use Rattle.ssa_model.specs.definitions.Json.{Text, Json, object, member_of}
-use Rattle.ssa_model.specs.definitions.Commands.{text_in, value_in}
+use Rattle.ssa_model.specs.definitions.Commands.{text_in, value_in, is_subresource}
 use Rattle.ssa_model.specs.definitions.RecordReading.{Test, MemberShape, has_members, is_fields, is_key, is_list_of, is_moment, is_operation, is_path, is_put, is_whole, change_shape, entry_shape, here_shape, record_shape, is_record_shape}
 use Rattle.ssa_model.specs.definitions.Schema.{is_text}
 use Rattle.ssa_json.specs.Readings.{readings}
 use Rattle.ssa_json.specs.View.{members_view}
 use Rattle.ssa_json.specs.declared.value.Json as values
 use Rattle.ssa_told.specs.Shapes.{is_leaf, is_order, are_body_lists, are_table_lists}
-use Rattle.ssa_told.specs.Telling.{passes, may_pass, are_named}
+use Rattle.ssa_told.specs.Telling.{passes, may_pass, are_key, are_named}
 use Rattle.ssa_told.proofs.MemberShapes.{AreApart, shape-fits}
 use Rattle.ssa_model.proofs.Basics.{and-false, or-false}
 
@@ -24,6 +24,12 @@ Found = String Global × values.Json
 both-refused : (a b r : Bool) → (a && b) ≡ false → (a && (b && r)) ≡ false
 both-refused true b r h = ap (λ c. c && r) h
 both-refused false b r h = refl
+
+-- the tests of a key stand one behind another
+one-by-one : (a b c r : Bool) → (a && (b && (c && r))) ≡ ((a && (b && c)) && r)
+one-by-one true true c r = refl
+one-by-one true false c r = refl
+one-by-one false b c r = refl
 
 -- what passes is there
 text-there : (test : Test) (o : Option Json) → passes test o ≡ true → text_in (Some (value_in o)) ≡ text_in o
@@ -41,7 +47,10 @@ change-apart = (
       λ v. or-false (is_text v),
       (
         λ v. or-false (is_operation v),
-        (λ v. or-false (is_moment readings v), tt),
+        (
+          λ v. or-false (is_subresource v),
+          (λ v. or-false (is_moment readings v), tt),
+        ),
       ),
     ),
   ),
@@ -58,7 +67,10 @@ entry-apart = (
         λ v. or-false (is_text v),
         (
           λ v. or-false (is_operation v),
-          (λ v. or-false (is_moment readings v), tt),
+          (
+            λ v. or-false (is_subresource v),
+            (λ v. or-false (is_moment readings v), tt),
+          ),
         ),
       ),
     ),
@@ -106,11 +118,8 @@ module _ (es : List Found) (sorted : IsStrictlySortedBy string_cmp (keys_of es))
   abbrev lose : Bool
   lose = passes (is_fields readings) (at (codes "lose"))
 
-  abbrev name : Bool
-  name = passes is_text (at (codes "manager"))
-
-  abbrev operation : Bool
-  operation = passes is_operation (at (codes "operation"))
+  abbrev key : Bool
+  key = are_key (at (codes "manager")) (at (codes "operation")) (at (codes "subresource"))
 
   abbrev renewed : Bool
   renewed = may_pass (is_moment readings) (at (codes "time"))
@@ -118,33 +127,41 @@ module _ (es : List Found) (sorted : IsStrictlySortedBy string_cmp (keys_of es))
   abbrev is_change : Bool
   is_change = has_members (change_shape readings) (object (members_view es))
 
-  change-is : is_change ≡ (named (change_shape readings) && (gain && (lose && (name && (operation && (renewed && true))))))
-  change-is = shape-fits (change_shape readings) es sorted change-apart
+  key-is : (r : Bool)
+      → (passes is_text (at (codes "manager")) && (passes is_operation (at (codes "operation")) && (may_pass is_subresource (at (codes "subresource")) && r)))
+      ≡ (key && r)
+  key-is =
+      one-by-one (passes is_text (at (codes "manager"))) (passes is_operation (at (codes "operation"))) (may_pass is_subresource (at (codes "subresource")))
+
+  change-is : is_change ≡ (named (change_shape readings) && (gain && (lose && (key && (renewed && true)))))
+  change-is =
+      shape-fits (change_shape readings) es sorted change-apart
+      ∙ ap (λ b. named (change_shape readings) && (gain && (lose && b))) (key-is (renewed && true))
 
   -- with other members it is no change
   pub change-named : named (change_shape readings) ≡ false → is_change ≡ false
-  change-named n = change-is ∙ (λ i. n i && (gain && (lose && (name && (operation && (renewed && true))))))
+  change-named n = change-is ∙ (λ i. n i && (gain && (lose && (key && (renewed && true)))))
 
   module _ (n : named (change_shape readings) ≡ true) where
     -- where the gained paths are none that are written so, it is no change
     pub change-gain : gain ≡ false → is_change ≡ false
-    change-gain g = change-is ∙ (λ i. n i && (g i && (lose && (name && (operation && (renewed && true))))))
+    change-gain g = change-is ∙ (λ i. n i && (g i && (lose && (key && (renewed && true)))))
 
     -- where the lost paths are none that are written so, it is no change
     pub change-lose : gain ≡ true → lose ≡ false → is_change ≡ false
-    change-lose g l = change-is ∙ (λ i. n i && (g i && (l i && (name && (operation && (renewed && true))))))
+    change-lose g l = change-is ∙ (λ i. n i && (g i && (l i && (key && (renewed && true)))))
 
-    -- without a manager's name or an operation it is no change
-    pub change-key : gain ≡ true → lose ≡ true → (name && operation) ≡ false → is_change ≡ false
-    change-key g l k = change-is ∙ (λ i. n i && (g i && (l i && both-refused name operation (renewed && true) k i)))
+    -- without a manager's name or an operation, or with a subresource that is none, it is no change
+    pub change-key : gain ≡ true → lose ≡ true → key ≡ false → is_change ≡ false
+    change-key g l k = change-is ∙ (λ i. n i && (g i && (l i && (k i && (renewed && true)))))
 
     -- with a time that is no moment it is no change
-    pub change-time : gain ≡ true → lose ≡ true → name ≡ true → operation ≡ true → renewed ≡ false → is_change ≡ false
-    change-time g l m o t = change-is ∙ (λ i. n i && (g i && (l i && (m i && (o i && (t i && true))))))
+    pub change-time : gain ≡ true → lose ≡ true → key ≡ true → renewed ≡ false → is_change ≡ false
+    change-time g l k t = change-is ∙ (λ i. n i && (g i && (l i && (k i && (t i && true)))))
 
     -- where each member passes, it is a change
-    pub change-all : gain ≡ true → lose ≡ true → name ≡ true → operation ≡ true → renewed ≡ true → is_change ≡ true
-    change-all g l m o t = change-is ∙ (λ i. n i && (g i && (l i && (m i && (o i && (t i && true))))))
+    pub change-all : gain ≡ true → lose ≡ true → key ≡ true → renewed ≡ true → is_change ≡ true
+    change-all g l k t = change-is ∙ (λ i. n i && (g i && (l i && (k i && (t i && true)))))
 
   -- ---- an entry
 
@@ -167,37 +184,36 @@ module _ (es : List Found) (sorted : IsStrictlySortedBy string_cmp (keys_of es))
   abbrev is_entry : Bool
   is_entry = has_members (entry_shape readings) (object (members_view es))
 
-  entry-is : is_entry ≡ (named (entry_shape readings) && (version && (type && (fields && (name && (operation && (time && true)))))))
-  entry-is = shape-fits (entry_shape readings) es sorted entry-apart
+  entry-is : is_entry ≡ (named (entry_shape readings) && (version && (type && (fields && (key && (time && true))))))
+  entry-is =
+      shape-fits (entry_shape readings) es sorted entry-apart
+      ∙ ap (λ b. named (entry_shape readings) && (version && (type && (fields && b)))) (key-is (time && true))
 
   -- with other members it is no entry
   pub entry-named : named (entry_shape readings) ≡ false → is_entry ≡ false
-  entry-named n = entry-is ∙ (λ i. n i && (version && (type && (fields && (name && (operation && (time && true)))))))
+  entry-named n = entry-is ∙ (λ i. n i && (version && (type && (fields && (key && (time && true))))))
 
   module _ (n : named (entry_shape readings) ≡ true) where
     -- without a version or a type of the fields that are texts it is no entry
     pub entry-texts : (version && type) ≡ false → is_entry ≡ false
-    entry-texts t = entry-is ∙ (λ i. n i && both-refused version type (fields && (name && (operation && (time && true)))) t i)
+    entry-texts t = entry-is ∙ (λ i. n i && both-refused version type (fields && (key && (time && true))) t i)
 
     module _ (t : (version && type) ≡ true) where
       -- where the fields are none that are written so, it is no entry
       pub entry-fields : fields ≡ false → is_entry ≡ false
-      entry-fields f = entry-is ∙ (λ i. n i && (first_so version type t i && (second_so version type t i && (f i && (name && (operation && (time && true)))))))
+      entry-fields f = entry-is ∙ (λ i. n i && (first_so version type t i && (second_so version type t i && (f i && (key && (time && true))))))
 
-      -- without a manager's name or an operation it is no entry
-      pub entry-key : fields ≡ true → (name && operation) ≡ false → is_entry ≡ false
-      entry-key f k = entry-is ∙ (λ i. n i && (first_so version type t i
-          && (second_so version type t i && (f i && both-refused name operation (time && true) k i))))
+      -- without a manager's name or an operation, or with a subresource that is none, it is no entry
+      pub entry-key : fields ≡ true → key ≡ false → is_entry ≡ false
+      entry-key f k = entry-is ∙ (λ i. n i && (first_so version type t i && (second_so version type t i && (f i && (k i && (time && true))))))
 
       -- with a time that is no moment it is no entry
-      pub entry-time : fields ≡ true → name ≡ true → operation ≡ true → time ≡ false → is_entry ≡ false
-      entry-time f m o at =
-          entry-is ∙ (λ i. n i && (first_so version type t i && (second_so version type t i && (f i && (m i && (o i && (at i && true)))))))
+      pub entry-time : fields ≡ true → key ≡ true → time ≡ false → is_entry ≡ false
+      entry-time f k at = entry-is ∙ (λ i. n i && (first_so version type t i && (second_so version type t i && (f i && (k i && (at i && true))))))
 
       -- where each member passes, it is an entry
-      pub entry-all : fields ≡ true → name ≡ true → operation ≡ true → time ≡ true → is_entry ≡ true
-      entry-all f m o at =
-          entry-is ∙ (λ i. n i && (first_so version type t i && (second_so version type t i && (f i && (m i && (o i && (at i && true)))))))
+      pub entry-all : fields ≡ true → key ≡ true → time ≡ true → is_entry ≡ true
+      entry-all f k at = entry-is ∙ (λ i. n i && (first_so version type t i && (second_so version type t i && (f i && (k i && (at i && true))))))
 
   -- ---- an entry that is here
 

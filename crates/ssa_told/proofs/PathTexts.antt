@@ -1,13 +1,12 @@
 -- Reading a path, text by text.
-use Rattle.std.proofs.Common.{◌≡◌, ℕ, ◌+◌, ◌<◌, ◌≤◌, List, [], ◌∷◌, ◌++◌, true, drop, length, get_or, refl, sym, ap, ◌∙◌, append_assoc, true≢false}
+use Rattle.std.proofs.Common.{◌≡◌, ℕ, List, ◌∷◌, ◌++◌, true, drop, refl, sym, true≢false}
 use Rattle.std.specs.Prelude.{Option, Some, None, Result, Ok, Err, is_some, option_and_then, option_map}
-use Rattle.std.proofs.lemmas.List.{append-nil, drop_more, drop_all}
 use Rattle.ssa_model.specs.definitions.Json.{Text, text, whole, truth, Json, scalar, list, object, Items, item, as_text}
 use Rattle.ssa_model.specs.definitions.Schema.{texts_of}
-use Rattle.ssa_model.specs.definitions.Path.{Element, Path}
-use Rattle.ssa_model.specs.definitions.ElementTexts.{ElementFault, element_of, next_element, path_of}
+use Rattle.ssa_model.specs.definitions.Path.{Path}
+use Rattle.ssa_model.specs.definitions.ElementTexts.{ElementFault, path_of}
 use Rattle.ssa_json.specs.Reading.{json_reading}
-use Rattle.ssa_json.specs.View.{view, items_view}
+use Rattle.ssa_json.specs.View.{items_view}
 use Rattle.ssa_json.specs.declared.value.Json as values
 use Rattle.ssa_told.specs.PathTexts.{given_texts, texts_or_none}
 

@@ -4,3 +4,4 @@ pub mod Said
 pub mod Shapes
 pub mod Telling
 pub mod Told
+pub mod ToldParts

@@ -1,9 +1,11 @@
 -- The shapes of the parts of a record's value.
 use Rattle.std.specs.Prelude.{◌≡◌, Bool, true, ◌&&◌, List, [], ◌∷◌, codes}
+use Rattle.ssa_model.specs.definitions.Commands.{is_subresource}
 use Rattle.ssa_model.specs.definitions.GivenEntries.{said_entry}
 use Rattle.ssa_model.specs.definitions.Json.{Json, object, Members, member_of}
 use Rattle.ssa_model.specs.definitions.Objects.{members_of_value}
-use Rattle.ssa_model.specs.definitions.RecordReading.{MemberShape, Test, is_anything, is_key, is_list_of, is_path, is_put, is_whole, has_items, has_members, change_shape, entry_shape, here_shape, record_shape}
+use Rattle.ssa_model.specs.definitions.RecordReading.{MemberShape, Test, is_anything, is_key, is_list_of, is_operation, is_path, is_put, is_whole, has_items, has_members, change_shape, entry_shape, here_shape, record_shape}
+use Rattle.ssa_model.specs.definitions.Schema.{is_text}
 use Rattle.ssa_model.specs.definitions.Table as model
 use Rattle.ssa_json.specs.Readings.{readings}
 use Rattle.ssa_told.specs.declared.member_names.Shape.{Shape}
@@ -23,6 +25,10 @@ is_order = has_items (is_path readings ∷ is_path readings ∷ [])
 -- what is put with a place
 abbrev pub is_placed : Test
 is_placed = has_items (is_path readings ∷ is_anything ∷ is_whole ∷ [])
+
+-- a manager that acts through a subresource
+abbrev pub is_longer_key : Test
+is_longer_key = has_items (is_text ∷ is_operation ∷ is_subresource ∷ [])
 
 abbrev pub shapes_of : Shape → List MemberShape
 shapes_of Line = line_shape is_anything is_anything

@@ -3,10 +3,12 @@ use Rattle.std.specs.Prelude.{◌≡◌, true, false, not, Bool, List, [], ◌�
 use Rattle.std.specs.Global.{Global}
 use Rattle.std.specs.List.{list_any, list_all}
 use Rattle.ssa_model.specs.definitions.Json.{Text, Json, list, no_items, item, Members, no_members, member, member_of, same_text, as_text}
-use Rattle.ssa_model.specs.definitions.Commands.{text_in, value_in}
+use Rattle.ssa_model.specs.definitions.Commands.{text_in, value_in, is_subresource, subresource_in}
 use Rattle.ssa_model.specs.definitions.RecordReading.{Test, MemberShape, has_items, is_list_of, is_moment, is_operation, list_in, operation_at}
 use Rattle.ssa_model.specs.definitions.Schema.{is_text}
 use Rattle.ssa_json.specs.Readings.{readings}
+use Rattle.ssa_path.specs.Subresources.{part_view}
+use Rattle.ssa_path.specs.declared.part.Part.{Part}
 use Rattle.ssa_merge.specs.Managers.{key_view}
 use Rattle.ssa_merge.specs.declared.manager.ManagerKey.{ManagerKey}
 
@@ -55,19 +57,29 @@ abbrev pub are_named : List MemberShape → Members → Bool
 are_named shapes no_members = true
 are_named shapes (member n v ms) = list_any (λ s. same_text n s.name) shapes && are_named shapes ms
 
--- ---- managers
-
--- Something is told exactly where there are a text and an operation, and it is their manager.
-abbrev pub TellsKey : Option ManagerKey → Option Json → Option Json → Type 0
-TellsKey (Some k) n o =
-    (passes is_text n ≡ true) × (passes is_operation o ≡ true) × (key_view k ≡ record { name = text_in n; operation = operation_at o })
-TellsKey None n o = (passes is_text n && passes is_operation o) ≡ false
-
--- ---- moments that may be told
-
+-- the member may be absent, and passes the test where it is there
 abbrev pub may_pass : Test → Option Json → Bool
 may_pass test None = true
 may_pass test (Some v) = test v
+
+-- ---- managers
+
+-- A part is told exactly where there is no subresource or the name of one, and it is the one that is reached so.
+abbrev pub TellsPart : Option Part → Option Json → Type 0
+TellsPart (Some p) s = (may_pass is_subresource s ≡ true) × (part_view p ≡ subresource_in s)
+TellsPart None s = may_pass is_subresource s ≡ false
+
+-- whether there are a text and an operation, and a subresource's name if anything stands where it may
+abbrev pub are_key : Option Json → Option Json → Option Json → Bool
+are_key n o s = passes is_text n && (passes is_operation o && may_pass is_subresource s)
+
+-- Something is told exactly where there are these, and it is their manager.
+abbrev pub TellsKey : Option ManagerKey → Option Json → Option Json → Option Json → Type 0
+TellsKey (Some k) n o s =
+    (are_key n o s ≡ true) × (key_view k ≡ record { name = text_in n; operation = operation_at o; part = subresource_in s })
+TellsKey None n o s = are_key n o s ≡ false
+
+-- ---- moments that may be told
 
 -- the moment, where one is told
 abbrev pub TellsMoment : Option (Option Text) → Option Json → Type 0

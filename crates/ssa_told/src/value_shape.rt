@@ -18,8 +18,8 @@ pub fn text_of<'a>(members: &'a Members<Json>, name: &str) -> Option<&'a str>
     find_member(members, name)?.as_text()
 }
 
-// The items, where the value is a list.
-fn as_list(value: &Json) -> Option<&[Json]>
+/// The items, where the value is a list.
+pub fn as_list(value: &Json) -> Option<&[Json]>
     ensures { option_map (λ items. items_view items.now) result ≡ as_list (view value.now) }
 {
     match value {
@@ -52,14 +52,6 @@ pub fn are_texts(items: &[Json]) -> bool
         }
     }
     true
-}
-
-/// The items of a list, none where the value is no list.
-pub fn items_in(value: &Json) -> &[Json] {
-    match value {
-        Json::List(items) => items.as_slice(),
-        _ => &[],
-    }
 }
 
 /// The items of a list of two.

@@ -1,17 +1,20 @@
 -- The text of the change of a manager, written member by member.
-use Rattle.std.proofs.Common.{◌≡◌, [], ◌∷◌, ◌++◌, Option, Some, None, true, false, refl}
+use Rattle.std.proofs.Common.{◌≡◌, [], ◌∷◌, ◌++◌, Option, Some, None, true, false, refl, ap, ◌∙◌, append_assoc}
 use Rattle.std.specs.Prelude.{codes}
 use Rattle.std.specs.Str.{is_utf8}
-use Rattle.ssa_model.specs.definitions.Entries.{operation_text, text_json}
+use Rattle.ssa_model.specs.definitions.Entries.{operation_text, part_members, text_json}
 use Rattle.ssa_model.specs.definitions.FieldsV1.{fields_json}
-use Rattle.ssa_model.specs.definitions.Json.{Text, Json, member, object, compact, compact_members}
+use Rattle.ssa_model.specs.definitions.Json.{Text, Json, Members, member, object, compact, compact_members}
 use Rattle.ssa_model.specs.definitions.MemberNames.{is_below}
+use Rattle.ssa_model.specs.definitions.Parts.{Subresource, main, status}
 use Rattle.ssa_model.specs.definitions.Record.{Change}
 use Rattle.ssa_model.specs.definitions.RecordText.{change_json, time_members}
+use Rattle.ssa_model.proofs.Ascii.{ascii-is-utf8}
 use Rattle.ssa_json.specs.MemberTexts.{member_text}
 use Rattle.ssa_json.specs.Writable.{IsOfProgram}
 use Rattle.ssa_json.proofs.MemberTexts.{writes-member, writes-object}
-use Rattle.ssa_json.proofs.OfProgram.{member-of-program}
+use Rattle.ssa_json.proofs.OfProgram.{member-of-program, text-of-program}
+use Rattle.ssa_path.specs.PartMembers.{part_text}
 use Rattle.ssa_turn_table.specs.Tables.{change_view}
 use Rattle.ssa_turn_table.specs.declared.delta.EntryChange.{EntryChange}
 
@@ -19,19 +22,47 @@ use Rattle.ssa_turn_table.specs.declared.delta.EntryChange.{EntryChange}
 abbrev pub changed_value : EntryChange → Json
 changed_value c = change_json (change_view c)
 
-time-above : (at : Option Text) → is_below (codes "operation") (time_members at) ≡ true
+-- ---- the member of a subresource, where the part is that of one
+
+part-behind : (s : Subresource) (ms : Members) → part_text s ++ compact_members true ms ≡ compact_members true (part_members s ms)
+part-behind main ms = refl
+part-behind status ms = refl
+
+-- what is written behind the member is written with it behind what stood before it
+part-written : (s : Subresource) (before : Text) {after whole : Text} (ms : Members) → after ≡ before ++ part_text s
+    → whole ≡ after ++ compact_members true ms → whole ≡ before ++ compact_members true (part_members s ms)
+part-written s before ms is rest =
+    rest ∙ ap (λ t. t ++ compact_members true ms) is ∙ append_assoc before (part_text s) (compact_members true ms)
+    ∙ ap (λ t. before ++ t) (part-behind s ms)
+
+part-above : (s : Subresource) (at : Option Text) → is_below (codes "operation") (part_members s (time_members at)) ≡ true
+part-above main None = refl
+part-above main (Some at) = refl
+part-above status at = refl
+
+time-above : (at : Option Text) → is_below (codes "subresource") (time_members at) ≡ true
 time-above None = refl
 time-above (Some at) = refl
 
--- a change
-pub change-written : (c : Change) (t0 : Text) {t1 t2 t3 t4 t5 t6 : Text} → t1 ≡ t0 ++ 123 ∷ []
+part-of-program : (s : Subresource) (at : Option Text) → IsOfProgram (object (time_members at)) → IsOfProgram (object (part_members s (time_members at)))
+part-of-program main at rest = rest
+part-of-program status at rest =
+    member-of-program (codes "subresource") (text_json (codes "status")) (time_members at) (ascii-is-utf8 (codes "subresource") refl) (time-above at)
+    (text-of-program (codes "status") (ascii-is-utf8 (codes "status") refl)) rest
+
+-- ---- a change
+
+-- the text is that of its members, one behind another
+pub change-written : (c : Change) (t0 : Text) {t1 t2 t3 t4 t5 t6 t7 : Text} → t1 ≡ t0 ++ 123 ∷ []
     → t2 ≡ t1 ++ member_text false (codes "gain") (fields_json c.gain)
     → t3 ≡ t2 ++ member_text true (codes "lose") (fields_json c.lose)
     → t4 ≡ t3 ++ member_text true (codes "manager") (text_json c.manager.name)
     → t5 ≡ t4 ++ member_text true (codes "operation") (text_json (operation_text c.manager.operation))
-    → t6 ≡ t5 ++ compact_members true (time_members c.moment) → t6 ≡ t0 ++ compact (change_json c)
-change-written c t0 {t1 = t1} {t2 = t2} {t3 = t3} {t4 = t4} {t5 = t5} e0 e1 e2 e3 e4 e5 =
-    let m4 = member (codes "operation") (text_json (operation_text c.manager.operation)) (time_members c.moment) in
+    → t6 ≡ t5 ++ part_text c.manager.part
+    → t7 ≡ t6 ++ compact_members true (time_members c.moment) → t7 ≡ t0 ++ compact (change_json c)
+change-written c t0 {t1 = t1} {t2 = t2} {t3 = t3} {t4 = t4} {t5 = t5} e0 e1 e2 e3 e4 e5 e6 =
+    let m5 = part_members c.manager.part (time_members c.moment) in
+    let m4 = member (codes "operation") (text_json (operation_text c.manager.operation)) m5 in
     let m3 = member (codes "manager") (text_json c.manager.name) m4 in
     let m2 = member (codes "lose") (fields_json c.lose) m3 in
     let m1 = member (codes "gain") (fields_json c.gain) m2 in
@@ -39,8 +70,8 @@ change-written c t0 {t1 = t1} {t2 = t2} {t3 = t3} {t4 = t4} {t5 = t5} e0 e1 e2 e
     (writes-member t1 false (codes "gain") (fields_json c.gain) m2 e1
     (writes-member t2 true (codes "lose") (fields_json c.lose) m3 e2
     (writes-member t3 true (codes "manager") (text_json c.manager.name) m4 e3
-    (writes-member t4 true (codes "operation") (text_json (operation_text c.manager.operation)) (time_members c.moment) e4
-    e5))))
+    (writes-member t4 true (codes "operation") (text_json (operation_text c.manager.operation)) m5 e4
+    (part-written c.manager.part t5 (time_members c.moment) e5 e6)))))
 
 pub change-of-program : (c : Change)
     → is_utf8 (codes "gain") ≡ true → IsOfProgram (fields_json c.gain)
@@ -50,12 +81,14 @@ pub change-of-program : (c : Change)
     → IsOfProgram (object (time_members c.moment))
     → IsOfProgram (change_json c)
 change-of-program c n1 v1 n2 v2 n3 v3 n4 v4 rest =
-    let m4 = member (codes "operation") (text_json (operation_text c.manager.operation)) (time_members c.moment) in
+    let s = c.manager.part in
+    let m5 = part_members s (time_members c.moment) in
+    let m4 = member (codes "operation") (text_json (operation_text c.manager.operation)) m5 in
     let m3 = member (codes "manager") (text_json c.manager.name) m4 in
     let m2 = member (codes "lose") (fields_json c.lose) m3 in
     let m1 = member (codes "gain") (fields_json c.gain) m2 in
     (member-of-program (codes "gain") (fields_json c.gain) m2 n1 refl v1
     (member-of-program (codes "lose") (fields_json c.lose) m3 n2 refl v2
     (member-of-program (codes "manager") (text_json c.manager.name) m4 n3 refl v3
-    (member-of-program (codes "operation") (text_json (operation_text c.manager.operation)) (time_members c.moment) n4 (time-above c.moment) v4
-    rest))))
+    (member-of-program (codes "operation") (text_json (operation_text c.manager.operation)) m5 n4 (part-above s c.moment) v4
+    (part-of-program s c.moment rest)))))

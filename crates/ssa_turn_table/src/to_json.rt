@@ -41,7 +41,7 @@ fn put_time(
 }
 
 // The change of a manager.
-#[tactic(auto, using(crate::proofs::RecordMembers::timed))]
+#[tactic(auto, using(crate::proofs::RecordMembers::members_put))]
 fn change_value(alloc: Global, change: &EntryChange) -> Result<Json, AllocError>
     requires { (s : PathSet) × HasRoom change.now.set s }
     ensures { IfOk result (λ v. view v ≡ change_json (change_view change.now)) }

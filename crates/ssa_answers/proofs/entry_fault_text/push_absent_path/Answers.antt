@@ -1,4 +1,3 @@
-use Rattle.std.proofs.Common.{◌++◌}
 use Rattle.std.specs.Prelude.{codes}
 use Rattle.ssa_model.specs.definitions.Json.{compact}
 use Rattle.ssa_model.specs.definitions.Faults.{absent_path}

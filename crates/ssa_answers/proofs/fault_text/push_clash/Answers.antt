@@ -1,5 +1,17 @@
-use Rattle.std.proofs.Common.{rules, append_assoc}
+use Rattle.std.proofs.Common.{◌++◌, ap, ◌∙◌}
+use Rattle.ssa_model.specs.definitions.Entries.{text_json}
+use Rattle.ssa_model.specs.definitions.Json.{compact}
+use Rattle.ssa_model.specs.definitions.Operations.{Clash}
+use Rattle.ssa_merge.specs.Managers.{key_view}
+use Rattle.ssa_answers.proofs.FaultFacts.{clash-written}
 use Rattle.ssa_answers.proofs.fault_text.push_clash.Goals as goal
 
 pub returns : goal.returns
-returns c = search (rules, append_assoc)
+returns c =
+    let clash : Clash = record { manager = key_view c.args.manager.now; fields = c.args.fields.now } in
+    clash-written clash c.args.text.now.items c.in_ok-extend_from_slice.ensures.items c.in_ok-push_paths.ensures.text
+    c.in_ok-extend_from_slice-2.ensures.items
+    (c.in_ok-push_string.ensures ∙ ap (λ t. c.extend_from_slice-2.new.self.items ++ compact (text_json t)) c.as_str.ensures.value)
+    c.in_ok-extend_from_slice-3.ensures.items
+    (c.in_ok-push_string-2.ensures ∙ ap (λ t. c.extend_from_slice-3.new.self.items ++ compact (text_json t)) c.text.ensures)
+    c.in_ok-push_part.ensures c.in_ok-push.ensures.items

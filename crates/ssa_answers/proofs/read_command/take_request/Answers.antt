@@ -5,11 +5,16 @@ use Rattle.ssa_model.specs.definitions.Commands.{value_in}
 use Rattle.ssa_json.specs.Moment.{is_moment}
 use Rattle.ssa_json.specs.View.{view, members_view}
 use Rattle.ssa_json.specs.Lookups.{view-lookup}
-use Rattle.ssa_answers.proofs.CommandFacts.{there, text_in-is, other_member}
+use Rattle.ssa_path.specs.Subresources.{part_view}
+use Rattle.ssa_answers.proofs.CommandFacts.{there, part-told, text_in-is, other_member}
 use Rattle.ssa_answers.proofs.read_command.take_request.Goals as goal
 
 pub unreachable-requires : goal.unreachable-requires
 unreachable-requires c = there _ c.requires.0 (sym c.text_of.ensures ∙ ap (option_map (λ t. t.now)) c.in_default.is)
+
+pub unreachable-requires-in_default-part_of_members : goal.unreachable-requires-in_default-part_of_members
+unreachable-requires-in_default-part_of_members c =
+    there _ c.requires.3 (sym c.part_of_members.ensures ∙ ap (option_map part_view) c.in_default-part_of_members.is)
 
 pub unreachable-requires-in_default-remove : goal.unreachable-requires-in_default-remove
 unreachable-requires-in_default-remove c =
@@ -30,8 +35,10 @@ returns c =
     let at-is = text_in-is _ _ (sym c.text_of.ensures ∙ ap (option_map (λ t. t.now)) c.in-Some.is) in
     let object-is : member_of (codes "object") ms ≡ Some (view c.in-Some-remove.object) =
     sym (ap (option_map view) c.remove.ensures.value ∙ view-lookup (codes "object") c.args.members.now.entries) ∙ ap (option_map view) c.in-Some-remove.is in
+    let part-is = sym c.part_of_members.ensures ∙ ap (option_map part_view) c.in-Some-part_of_members.is in
     record {
       manager_is = text_in-is _ _ who-is;
+      part_is = part-told _ _ part-is;
       at_is = at-is ∙ sym c.in-Ok.ensures.value;
       moment = ap is_moment at-is ∙ c.in-Ok.ensures.succeeds.0 refl;
       object_is = ap value_in object-is;

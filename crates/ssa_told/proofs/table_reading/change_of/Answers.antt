@@ -41,7 +41,7 @@ returns-in_default-moment_if_told c =
     let gain = rw c.in-Some.is at c.in_ok-gain.ensures in
     let lose = rw c.in-Some-2.is at c.in_ok-lose.ensures in
     let key = rw c.in-Some-3.is at c.in_ok-key.ensures in
-    change-time es sorted named gain.0 lose.0 key.0 key.1 (rw c.in_default-moment_if_told.is at c.moment_if_told.ensures)
+    change-time es sorted named gain.0 lose.0 key.0 (rw c.in_default-moment_if_told.is at c.moment_if_told.ensures)
 
 pub returns : goal.returns
 returns c =
@@ -52,6 +52,6 @@ returns c =
     let lose = rw c.in-Some-2.is at c.in_ok-lose.ensures in
     let key = rw c.in-Some-3.is at c.in_ok-key.ensures in
     let time = rw c.in-Some-moment_if_told.is at c.moment_if_told.ensures in (
-      change-all es sorted named gain.0 lose.0 key.0 key.1 time.0,
-      λ i. record { manager = key.2 i; gain = gain.1 i; lose = lose.1 i; moment = time.1 i },
+      change-all es sorted named gain.0 lose.0 key.0 time.0,
+      λ i. record { manager = key.1 i; gain = gain.1 i; lose = lose.1 i; moment = time.1 i },
     )

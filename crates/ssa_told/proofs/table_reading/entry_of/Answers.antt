@@ -42,7 +42,7 @@ returns-in_default-moment_at c =
     let texts = sym c.has_entry_texts.ensures ∙ c.if-not-has_entry_texts.false in
     let fields = rw c.in-Some.is at c.in_ok-set.ensures in
     let key = rw c.in-Some-2.is at c.in_ok-key.ensures in
-    entry-time es sorted named texts fields.0 key.0 key.1 (rw c.in_default-moment_at.is at c.moment_at.ensures)
+    entry-time es sorted named texts fields.0 key.0 (rw c.in_default-moment_at.is at c.moment_at.ensures)
 
 pub returns : goal.returns
 returns c =
@@ -54,6 +54,6 @@ returns c =
     let key = rw c.in-Some-2.is at c.in_ok-key.ensures in
     let time = rw c.in-Some-moment_at.is at c.moment_at.ensures in
     let moment = time.1 ∙ moment-there es sorted time.0 in (
-      entry-all es sorted named texts fields.0 key.0 key.1 time.0,
-      λ i. record { manager = key.2 i; owned = fields.1 i; moment = moment i },
+      entry-all es sorted named texts fields.0 key.0 time.0,
+      λ i. record { manager = key.1 i; owned = fields.1 i; moment = moment i },
     )

@@ -23,7 +23,8 @@ returns-clause-text c =
     (member-as c.push_fields_v1.new.text.items true (codes "lose")
     (member-of c.push_fields_v1.new.text.items true (codes "lose") _ c.in_ok-push_name-2.ensures.text c.in_ok-push_fields_v1-2.ensures.text) lose)
     (member-as c.push_fields_v1-2.new.text.items true (codes "manager") c.in_ok-push_text_member.ensures.text (ap text_json c.as_str.ensures.value))
-    (member-as c.push_text_member.new.text.items true (codes "operation") c.in_ok-push_text_member-2.ensures.text (ap text_json c.text.ensures)))
+    (member-as c.push_text_member.new.text.items true (codes "operation") c.in_ok-push_text_member-2.ensures.text (ap text_json c.text.ensures))
+    c.in_ok-push_part.ensures)
     c.push_time.ensures.text
 
 pub returns-clause-of_program : goal.returns-clause-of_program
