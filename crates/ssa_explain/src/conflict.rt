@@ -1,11 +1,10 @@
 //! The fields of a conflict with their two values, and the ways out.
 
+use crate::part::part_at;
 use crate::way::{push_element, push_value};
-use ssa_json::value::{Json, Scalar};
+use ssa_json::value::Json;
 use ssa_merge::manager::ManagerKey;
-use ssa_path::element::Elem;
 use ssa_path::field_set::FieldSet;
-use ssa_path::keys::Keys;
 use ssa_path::path::Path;
 use std::alloc::{AllocError, Global};
 
@@ -15,41 +14,6 @@ const MOST_FIELDS: usize = 20;
 // What kubectl tells of a conflict too.
 const WAYS_OUT: &[u8] =
     b"ssabench: apply again with --force-conflicts to take these fields over, without them to leave them to their managers, or with their live values to own them together\n";
-
-// Whether the item has these key fields.
-fn has_keys(item: &Json, keys: &Keys) -> bool {
-    for (name, value) in keys.members() {
-        match item.member(name.as_str()) {
-            Some(Json::Scalar(found)) => {
-                if !found.same(value) {
-                    return false;
-                }
-            }
-            _ => return false,
-        }
-    }
-    true
-}
-
-// Whether the item is this value.
-fn is_value(item: &Json, value: &Scalar) -> bool {
-    match item {
-        Json::Scalar(found) => found.same(value),
-        _ => false,
-    }
-}
-
-// The part of a value that an element names.
-fn part_at<'a>(value: &'a Json, element: &Elem) -> Option<&'a Json> {
-    match (value, element) {
-        (Json::Object(_), Elem::Field(name)) => value.member(name.as_str()),
-        (Json::List(items), Elem::Key(keys)) => items.iter().find(|item| has_keys(item, keys)),
-        (Json::List(items), Elem::Value(scalar)) => {
-            items.iter().find(|item| is_value(item, scalar))
-        }
-        _ => None,
-    }
-}
 
 // Appends the value at a path of an object.
 fn push_value_at(text: &mut Vec<u8>, object: &Json, path: &Path) -> Result<(), AllocError> {

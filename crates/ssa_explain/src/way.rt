@@ -26,6 +26,14 @@ fn push_scalar(alloc: Global, text: &mut Vec<u8>, scalar: &Scalar) -> Result<(),
     push_value(text, &Json::Scalar(scalar.copy(alloc)?))
 }
 
+/// Appends a name as it is, or quoted: `name`, or `"a name"`.
+pub fn push_name(text: &mut Vec<u8>, name: &str) -> Result<(), AllocError> {
+    if is_plain(name) {
+        return text.extend_from_slice(name.as_bytes());
+    }
+    push_quoted(text, name)
+}
+
 /// Appends the step to a member: `.name`, or `["a name"]`.
 pub fn push_member(text: &mut Vec<u8>, name: &str) -> Result<(), AllocError> {
     if is_plain(name) {

@@ -6,6 +6,7 @@ use ssa_answers::command::Command;
 use ssa_answers::fault::Fault;
 use ssa_answers::read_command::LineFault;
 use ssa_bench::bench::Bench;
+use ssa_explain::body::push_body_fault;
 use ssa_explain::conflict::push_conflict;
 use ssa_explain::entry::push_refused_entry;
 use ssa_explain::identity::{push_missing_part, push_other_part};
@@ -13,10 +14,12 @@ use ssa_explain::json::push_unread;
 use ssa_explain::path::push_refused_element;
 use ssa_explain::way::push_member;
 use ssa_json::fault::JsonFault;
-use ssa_json::sink::Sink;
+use ssa_json::sink::{OfWriter, Sink};
 use ssa_json::value::Json;
+use ssa_lines::line::line_len;
 use ssa_lines::loading::LoadFault;
 use ssa_lines::saving::write_text;
+use ssa_schema::body_fault::BodyFault;
 use ssa_schema::schema::Schema;
 use ssa_session::files::{FileFault, schema_of};
 use std::alloc::{AllocError, Global};
@@ -149,7 +152,46 @@ fn schema_lines(
     }
 }
 
-// A line about an object that no bench is made of, where its fault line does not say where.
+// A line about an object that does not fit its schema.
+fn body_line(
+    alloc: Global,
+    name: &str,
+    schema: &Schema,
+    object: &Json,
+    fault: &BodyFault,
+) -> Result<Vec<u8>, AllocError> {
+    let mut text = begun(alloc, name)?;
+    push_body_fault(alloc, &mut text, schema, object, fault)?;
+    ended(text)
+}
+
+// A line about an object that is too large, or that makes another one so.
+fn too_many_line(alloc: Global, name: &str) -> Result<Vec<u8>, AllocError> {
+    let mut text = begun(alloc, name)?;
+    text.extend_from_slice(b"more than 20000 fields and items")?;
+    ended(text)
+}
+
+// A line about the managers' entries of an object.
+fn entry_line(
+    alloc: Global,
+    name: &str,
+    schema: &Schema,
+    object: Json,
+) -> Result<Vec<u8>, AllocError> {
+    let mut text = begun(alloc, name)?;
+    push_refused_entry(alloc, &mut text, schema, object)?;
+    ended(text)
+}
+
+// A line about an object without an identity.
+fn identity_line(alloc: Global, name: &str, object: &Json) -> Result<Vec<u8>, AllocError> {
+    let mut text = begun(alloc, name)?;
+    push_missing_part(&mut text, object)?;
+    ended(text)
+}
+
+// A line about an object that no bench is made of.
 fn object_line(
     alloc: Global,
     name: &str,
@@ -157,19 +199,19 @@ fn object_line(
     schema: &[u8],
     fault: &Fault,
 ) -> Result<Vec<u8>, AllocError> {
-    let Ok(object) = Json::read(alloc, bytes, MOST_INPUT_BYTES) else {
+    let (Ok(object), Ok(schema)) = (
+        Json::read(alloc, bytes, MOST_INPUT_BYTES),
+        schema_of(alloc, schema),
+    ) else {
         return Ok(Vec::new(alloc));
     };
-    let mut text = begun(alloc, name)?;
     match fault {
-        Fault::Identity => push_missing_part(&mut text, &object)?,
-        Fault::Entry(_) => match schema_of(alloc, schema) {
-            Ok(schema) => push_refused_entry(alloc, &mut text, &schema, object)?,
-            Err(_) => return Ok(Vec::new(alloc)),
-        },
-        _ => return Ok(Vec::new(alloc)),
+        Fault::Identity => identity_line(alloc, name, &object),
+        Fault::Body(fault) => body_line(alloc, name, &schema, &object, fault),
+        Fault::TooManyPaths => too_many_line(alloc, name),
+        Fault::Entry(_) => entry_line(alloc, name, &schema, object),
+        _ => Ok(Vec::new(alloc)),
     }
-    ended(text)
 }
 
 fn object_lines(
@@ -221,6 +263,48 @@ fn command_lines(
     }
 }
 
+// The schema of a bench: the second line of its file.
+fn schema_of_bench(alloc: Global, bench: &Bench) -> Option<Schema> {
+    let mut sink = OfWriter::new(Vec::new(alloc));
+    if bench.save(alloc, &mut sink).is_err() {
+        return None;
+    }
+    let text = sink.into_inner();
+    let first = line_len(&text);
+    if first >= text.len() {
+        return None;
+    }
+    let rest = &text[first + 1..];
+    schema_of(alloc, &rest[..line_len(rest)]).ok()
+}
+
+// A line about an object that does not fit the schema of a bench.
+fn misfit_line(
+    alloc: Global,
+    bench: &Bench,
+    name: &str,
+    object: &Json,
+    fault: &BodyFault,
+) -> Result<Vec<u8>, AllocError> {
+    match schema_of_bench(alloc, bench) {
+        Some(schema) => body_line(alloc, name, &schema, object, fault),
+        None => Ok(Vec::new(alloc)),
+    }
+}
+
+// A line about an object that is another than the bench's.
+fn other_line(
+    alloc: Global,
+    bench: &Bench,
+    name: &str,
+    object: &Json,
+) -> Result<Vec<u8>, AllocError> {
+    let held = bench.show(alloc, false)?;
+    let mut text = begun(alloc, name)?;
+    push_other_part(&mut text, object, &held)?;
+    ended(text)
+}
+
 // Lines about the refusal of a command whose object is these bytes, the named file's.
 fn refusal_lines(
     alloc: Global,
@@ -242,14 +326,12 @@ fn refusal_lines(
     let Ok(object) = Json::read(alloc, object, MOST_INPUT_BYTES) else {
         return Ok(Vec::new(alloc));
     };
-    let held = bench.show(alloc, false)?;
     match fault {
-        Fault::Identity => {
-            let mut text = begun(alloc, name)?;
-            push_other_part(&mut text, &object, &held)?;
-            ended(text)
-        }
+        Fault::Identity => other_line(alloc, bench, name, &object),
+        Fault::Body(fault) => misfit_line(alloc, bench, name, &object, fault),
+        Fault::TooManyPaths => too_many_line(alloc, name),
         Fault::Conflict(clashes) => {
+            let held = bench.show(alloc, false)?;
             let mut text = Vec::new(alloc);
             push_conflict(alloc, &mut text, clashes, &held, &object)?;
             Ok(text)
