@@ -4,6 +4,7 @@ ghost use Rattle.std.specs.Prelude.{◌≡◌, IfOk, option_map};
 ghost use Rattle.ssa_model.specs.definitions.Formats.{is_main, is_main_label};
 ghost use Rattle.ssa_model.specs.laws.BenchFiles.{schema_in};
 ghost use Rattle.ssa_json.specs.View.{view};
+ghost use Rattle.ssa_path.specs.Subresources.{part_view};
 ghost use Rattle.ssa_turn.specs.Histories.{label_view};
 ghost use Rattle.ssa_file.specs.Heads.{IsFew};
 ghost use Rattle.ssa_bench.specs.Taking.{IsTaken, TakesHead, answered_step, load_fault, of_schema_fault, written_label};
@@ -13,7 +14,7 @@ use ssa_file::head::{FileHead, file_head};
 use ssa_json::value::Json;
 use ssa_lines::loading::{FileLine, LoadFault};
 use ssa_lines::written::is_text_of;
-use ssa_merge::managers::Managers;
+use ssa_merge::managers::{Entry, Managers};
 use ssa_path::part::Part;
 use ssa_record::read_record::RecordAnswer;
 use ssa_schema::fault::SchemaFault;
@@ -107,13 +108,23 @@ pub(crate) fn is_main_label(label: &Label) -> bool
     }
 }
 
+// Whether none of these acts through a subresource.
+fn are_main_entries(entries: &[Entry]) -> bool
+    ensures { result ≡ list_all (λ e. is_main (part_view e.key.part)) entries.now }
+{
+    for entry in entries {
+        if !matches!(entry.key.part, Part::Main) {
+            return false;
+        }
+    }
+    true
+}
+
 // Whether no manager acts through a subresource.
 pub(crate) fn are_main_managers(managers: &Managers) -> bool
     ensures { result ≡ list_all (λ e. is_main e.manager.part) managers.now }
 {
-    managers
-        .iter()
-        .all(|entry| matches!(entry.key.part, Part::Main))
+    are_main_entries(managers.entries())
 }
 
 // The step of a command and its record that was read, or why their line is refused.

@@ -2,6 +2,7 @@ use Rattle.ssa_model.proofs.LoneBenches.{lone-parts}
 use Rattle.ssa_model.specs.laws.RecordedBenches.{present_in}
 use Rattle.ssa_json.specs.Readings.{readings}
 use Rattle.ssa_json.specs.View.{view}
+use Rattle.ssa_file.specs.Recording.{format_view}
 use Rattle.ssa_lines.specs.declared.loading.LoadFault.TheVariants.{OutOfMemory}
 use Rattle.ssa_bench.specs.Taking.{IsTaken}
 use Rattle.ssa_bench.proofs.LoadedParts.{fault-handed}
@@ -15,5 +16,5 @@ is_present_line-requires c = (lone-parts readings c.args.schema (view c.args.lin
 
 pub returns-in_err-is_present_line-in-Ok-clause-taken : goal.returns-in_err-is_present_line-in-Ok-clause-taken
 returns-in_err-is_present_line-in-Ok-clause-taken c =
-    fault-handed c.from_residual.result OutOfMemory (λ r. IsTaken r (present_in readings c.args.schema (view c.args.line.value)))
+    fault-handed c.from_residual.result OutOfMemory (λ r. IsTaken r (present_in readings (format_view c.args.format) c.args.schema (view c.args.line.value)))
     c.from_residual.ensures.1 tt

@@ -35,7 +35,7 @@ returns-clause-told c =
     let bench : model.Bench = bench_view c.self.inside in
     let line : IsLine c.in-Some.values v = subst (λ o. TellsLine o v) c.in-Some.is c.line_values.ensures in
     let label = c.in-Some-2.label in
-    let tells = sym (line-can-tell (format_view c.args.format) c.in-Some.values v line) ∙ sym c.can_tell.ensures ∙ c.can_tell.is in
+    let tells = sym (line-can-tell (format_view c.args.format) c.in-Some.values v line) ∙ sym c.can_tell.ensures ∙ c.if-not-can_tell.false in
     let written : written_label (view c.in-Some.values.command.now) ≡ Some (label_view label) = sym c.in_ok-label.ensures
     ∙ ap (option_map label_view) c.in-Some-2.is in
     let version = c.version-version.result.now in
