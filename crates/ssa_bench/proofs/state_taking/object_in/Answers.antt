@@ -20,5 +20,5 @@ returns-in-Object c =
     let members = c.in-Object.members in
     let none : ◌≡◌ {A = Option model.Json} None (member_of (codes "object") (members_view members.entries)) =
     ap (option_map view) (sym c.in-None.is ∙ c.remove.ensures.value) ∙ view-lookup (codes "object") members.entries in
-    view-Object c.new.result ∙ ap (λ ms. model.object (members_view ms)) c.new.ensures ∙ ap value_in none
+    view-Object c.new.result ∙ ap (λ ms. model.object (members_view ms)) c.new.ensures.empty ∙ ap value_in none
     ∙ sym (ap object_in (ap view c.in-Object.is ∙ view-Object members))

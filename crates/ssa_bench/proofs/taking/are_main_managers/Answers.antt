@@ -8,5 +8,5 @@ use Rattle.ssa_bench.proofs.taking.are_main_managers.Goals as goal
 
 pub returns : goal.returns
 returns c =
-    c.are_main_entries.ensures ∙ sym (list_all-map (λ (e : Entry). is_main e.manager.part) entry_view c.entries.result)
-    ∙ ap (list_all (λ (e : Entry). is_main e.manager.part)) c.entries.ensures
+    c.are_main_entries.ensures ∙ sym (list_all-map (λ (e : Entry). is_main e.manager.part) entry_view c.entries.result.now)
+    ∙ ap (list_all (λ (e : Entry). is_main e.manager.part)) c.entries.ensures.same

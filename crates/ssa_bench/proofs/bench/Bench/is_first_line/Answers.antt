@@ -1,6 +1,6 @@
-use Rattle.std.proofs.Common.{◌≡◌, ap, subst, ◌∙◌}
+use Rattle.std.proofs.Common.{◌≡◌, true, ap, subst, ◌∙◌}
 use Rattle.std.specs.Prelude.{IfOk}
-use Rattle.ssa_model.specs.definitions.Answers.{object_of_state}
+use Rattle.ssa_model.specs.definitions.Entries.{object_of_state}
 use Rattle.ssa_model.specs.definitions.BenchText.{state_json, whole_object}
 use Rattle.ssa_model.specs.definitions.History.{present}
 use Rattle.ssa_model.specs.definitions.Json as model
@@ -12,7 +12,7 @@ use Rattle.ssa_bench.proofs.bench.Bench.is_first_line.Goals as goal
 pub returns : goal.returns
 returns c =
     let b = c.args.self.now in
-    let command = view-Object c.new.result ∙ ap (λ ms. object (members_view ms)) c.new.ensures in
+    let command = view-Object c.new.result ∙ ap (λ ms. object (members_view ms)) c.new.ensures.empty in
     let shown = c.in_ok-object.ensures ∙ ap (λ n. object_of_state b.identity b.schema.kind true n) (ap present c.requires) in
     subst (λ (v : model.Json). IfOk c.is_line_of.result (λ same. same ≡ same_text (compact v) c.args.text.now)) (λ i. state_json (command i) (shown i))
     c.is_line_of.ensures
