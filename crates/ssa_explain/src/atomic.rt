@@ -6,8 +6,11 @@ use ssa_json::value::Json;
 use ssa_schema::kind::{Shape, find_shape};
 use std::alloc::{AllocError, Global};
 
+// How deep schemas nest, and so what fits one.
+const LEVELS: usize = 32;
+
 // Whether the value is what the shape asks for, whatever is inside it.
-fn is_outside_of(value: &Json, shape: &Shape) -> bool {
+fn is_of_sort(value: &Json, shape: &Shape) -> bool {
     match (shape, value) {
         (Shape::Scalar(wanted), Json::Scalar(scalar)) => wanted.has(scalar),
         (Shape::Record(_), Json::Object(_)) => true,
@@ -38,16 +41,17 @@ fn near_field<'a>(shape: &'a Shape, name: &'a str) -> Option<&'a str> {
     nearest.found()
 }
 
-// What is wrong with a member.
+// What is wrong with a member, where so many levels are left.
 #[cycle(seek)]
 fn wrong_in_member(
     alloc: Global,
     name: &str,
     member: &Json,
     shape: &Shape,
+    levels: usize,
 ) -> Result<Option<Wrong>, AllocError> {
     let found = match member_shape(shape, name) {
-        Some(inside) => wrong_in(alloc, member, inside)?,
+        Some(inside) => wrong_within(alloc, member, inside, levels)?,
         None => Some(Wrong::unknown_field(alloc, near_field(shape, name))?),
     };
     match found {
@@ -56,38 +60,52 @@ fn wrong_in_member(
     }
 }
 
-// The first thing that is wrong with the items of a list.
+// The first thing that is wrong with the items of a list, where so many levels are left.
 #[cycle(seek)]
 fn wrong_in_items(
     alloc: Global,
     items: &[Json],
     inside: &Shape,
+    levels: usize,
 ) -> Result<Option<Wrong>, AllocError> {
     for (place, item) in items.iter().enumerate() {
-        if let Some(wrong) = wrong_in(alloc, item, inside)? {
+        if let Some(wrong) = wrong_within(alloc, item, inside, levels)? {
             return Ok(Some(wrong.in_item(alloc, place)?));
         }
     }
     Ok(None)
 }
 
-/// The first thing that is wrong with a value of this shape.
+// The first thing that is wrong with a value of this shape, where so many levels are left.
 #[cycle(seek)]
-pub fn wrong_in(alloc: Global, value: &Json, shape: &Shape) -> Result<Option<Wrong>, AllocError> {
-    if !is_outside_of(value, shape) {
+fn wrong_within(
+    alloc: Global,
+    value: &Json,
+    shape: &Shape,
+    levels: usize,
+) -> Result<Option<Wrong>, AllocError> {
+    if levels == 0 {
+        return Ok(None);
+    }
+    if !is_of_sort(value, shape) {
         let wrong = Wrong::other_type(alloc, value, shape_words(shape))?;
         return Ok(Some(wrong));
     }
     if let (Json::List(items), Shape::List(inside)) = (value, shape) {
-        return wrong_in_items(alloc, items, inside);
+        return wrong_in_items(alloc, items, inside, levels - 1);
     }
     let Json::Object(members) = value else {
         return Ok(None);
     };
     for (name, member) in members.entries() {
-        if let Some(wrong) = wrong_in_member(alloc, name.as_str(), member, shape)? {
+        if let Some(wrong) = wrong_in_member(alloc, name.as_str(), member, shape, levels - 1)? {
             return Ok(Some(wrong));
         }
     }
     Ok(None)
+}
+
+/// The first thing that is wrong with a value of this shape.
+pub fn wrong_in(alloc: Global, value: &Json, shape: &Shape) -> Result<Option<Wrong>, AllocError> {
+    wrong_within(alloc, value, shape, LEVELS)
 }
