@@ -56,7 +56,7 @@ bench_json-told _ g is = ap fault_reply (sym is)
 -- ---- conflicts
 
 -- what closes a clash is written behind the member of a subresource
-part-closed : (s : Subresource) → part_text s ++ 125 ∷ [] ≡ compact_members true (part_members s no_members)
+pub part-closed : (s : Subresource) → part_text s ++ 125 ∷ [] ≡ compact_members true (part_members s no_members)
 part-closed main = refl
 part-closed status = refl
 

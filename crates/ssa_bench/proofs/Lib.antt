@@ -3,6 +3,7 @@ pub mod Taken
 pub mod ReadBack
 pub mod TakenLines
 pub mod TakenStates
+pub mod ToldInFormat
 pub mod LoadedParts
 pub mod LoadedHeads
 pub mod LoadedMoves

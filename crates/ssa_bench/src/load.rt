@@ -9,7 +9,8 @@ ghost use Rattle.ssa_model.specs.laws.LineByLine.{later_from, moves_from, preced
 ghost use Rattle.ssa_json.specs.Readings.{readings};
 ghost use Rattle.ssa_json.specs.View.{view};
 ghost use Rattle.ssa_json.specs.Writable.{IsOfProgram};
-ghost use Rattle.ssa_file.specs.Heads.{IsFew, counts_view, format_view, head_view, place_view};
+ghost use Rattle.ssa_file.specs.Heads.{IsFew, counts_view, head_view, place_view};
+ghost use Rattle.ssa_file.specs.Recording.{format_view};
 ghost use Rattle.ssa_lines.specs.declared.loading.LoadFault.TheVariants.{Io};
 ghost use Rattle.ssa_bench.specs.Loading.{Loads, ReadsEnd, ReadsHead, ReadsLine, ReadsMoves, ReadsOn, ReadsPart, ReadsSteps};
 

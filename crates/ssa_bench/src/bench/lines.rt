@@ -12,7 +12,8 @@ ghost use Rattle.ssa_model.specs.laws.LineByLine.{at_place, preceded, shown_in};
 ghost use Rattle.ssa_model.specs.laws.RecordedBenches.{present_in};
 ghost use Rattle.ssa_json.specs.Readings.{readings};
 ghost use Rattle.ssa_json.specs.View.{view};
-ghost use Rattle.ssa_file.specs.Heads.{format_view, head_view};
+ghost use Rattle.ssa_file.specs.Heads.{head_view};
+ghost use Rattle.ssa_file.specs.Recording.{format_view};
 ghost use Rattle.ssa_bench.specs.Taking.{IsTaken, MovesBy, TellsMove};
 
 use super::Bench;

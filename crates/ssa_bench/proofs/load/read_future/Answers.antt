@@ -1,6 +1,6 @@
 use Rattle.std.proofs.Common.{ap, arith}
 use Rattle.ssa_model.specs.definitions.History.{Bench, appended}
-use Rattle.ssa_file.specs.Heads.{format_view}
+use Rattle.ssa_file.specs.Recording.{format_view}
 use Rattle.ssa_bench.specs.Loading.{ReadsMoves}
 use Rattle.ssa_bench.proofs.LoadedParts.{fault-handed}
 use Rattle.ssa_bench.proofs.LoadedMoves.{went-more, went-refused, went-unread}

@@ -2,7 +2,7 @@ use Rattle.std.proofs.Common.{◌≡◌, ◌+◌, length}
 use Rattle.ssa_model.specs.definitions.History.{past_len}
 use Rattle.ssa_model.specs.laws.LineByLine.{along, preceded}
 use Rattle.ssa_json.specs.Readings.{readings}
-use Rattle.ssa_file.specs.Heads.{format_view}
+use Rattle.ssa_file.specs.Recording.{format_view}
 use Rattle.ssa_bench.proofs.LoadedMoves.{Went}
 use Rattle.ssa_bench.proofs.load.read_past.Given as goal
 

@@ -12,7 +12,7 @@ use Rattle.ssa_turn.specs.TablesBack.{HasTableBack}
 use Rattle.ssa_turn.specs.declared.label.Label.{Label}
 use Rattle.ssa_turn_state.specs.States.{HasStateRoom, IsTaken, state_steps}
 use Rattle.ssa_turn_state.specs.declared.live_state.StateDelta.{StateDelta}
-use Rattle.ssa_file.specs.Heads.{format_view}
+use Rattle.ssa_file.specs.Recording.{format_view}
 use Rattle.ssa_bench.specs.BenchView.{bench_view}
 use Rattle.ssa_bench.specs.Taking.{IsToldMove, TellsMove}
 use Rattle.ssa_bench.proofs.bench.Bench.go_on_by.Goals as goal

@@ -7,7 +7,7 @@ use Rattle.ssa_json.specs.View.{view}
 use Rattle.ssa_told.specs.LineValues.{IsLine, TellsLine}
 use Rattle.ssa_record.specs.RecordAnswers.{IsAnswer}
 use Rattle.ssa_turn.specs.Histories.{label_view}
-use Rattle.ssa_file.specs.Heads.{format_view}
+use Rattle.ssa_file.specs.Recording.{format_view}
 use Rattle.ssa_bench.specs.BenchView.{bench_view}
 use Rattle.ssa_bench.specs.Taking.{TellsMove, written_label}
 use Rattle.ssa_bench.proofs.TakenLines.{line-can-tell, no-label, no-line, shapeless-told, told-answer, untold}
