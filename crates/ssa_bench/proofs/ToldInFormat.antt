@@ -1,15 +1,16 @@
 -- What a format can tell of a bench is taken as it would be in any format, and what it cannot tell is not taken.
 use Rattle.std.proofs.Common.{◌≡◌, Bool, true, false, ◌&&◌, Option, Some, None, refl, ap, ◌∙◌}
-use Rattle.std.specs.Prelude.{Result, Ok, Err}
+use Rattle.std.specs.Prelude.{codes, option_and_then, Result, Ok, Err}
 use Rattle.ssa_model.specs.definitions.Answers as model
 use Rattle.ssa_model.specs.definitions.Answers.{bench_of, file_state}
 use Rattle.ssa_model.specs.definitions.BenchText.{Format, states, whole_object, first_json, step_json}
+use Rattle.ssa_model.specs.definitions.Commands.{value_in}
 use Rattle.ssa_model.specs.definitions.Formats.{can_tell_label, can_tell_state}
 use Rattle.ssa_model.specs.definitions.History.{Bench, Label, Step}
-use Rattle.ssa_model.specs.definitions.Json.{Json}
+use Rattle.ssa_model.specs.definitions.Json.{Json, member_at}
 use Rattle.ssa_model.specs.definitions.Operations.{State}
 use Rattle.ssa_model.specs.definitions.Schema.{Schema}
-use Rattle.ssa_model.specs.laws.BenchFiles.{given_if, is_written_as, keeps_order, lone_in, object_in, step_with}
+use Rattle.ssa_model.specs.laws.BenchFiles.{given_if, is_written_as, keeps_order, label_in, lone_in, object_in, step_in, step_with}
 use Rattle.ssa_model.specs.laws.RecordedBenches.{present_in}
 use Rattle.ssa_json.specs.Readings.{readings}
 
@@ -82,3 +83,11 @@ module _ (bench : Bench) (before : State) (v : Json) (label : Label) (state : St
   pub step-untold : (can_tell_label states label && can_tell_state states state) ≡ false → step_with bench before v label state ≡ None
   step-untold untold = parted
       ∙ never-given (is_written_as (step_json bench step) v && kept) (can_tell_label states label && can_tell_state states state) step untold
+
+-- the label and the state that a line says decide what is taken of it
+pub step-said : (bench : Bench) (before : State) (v : Json) (label : Label) (state : State)
+    → label_in readings (value_in (member_at (codes "command") v)) ≡ Some label → file_state readings bench.schema.kind (object_in v) ≡ Ok state
+    → step_in readings bench before v ≡ step_with bench before v label state
+step-said bench before v label state said made =
+    ap (option_and_then (λ l. elim (file_state readings bench.schema.kind (object_in v)) [ Ok s ↦ step_with bench before v l s | Err f ↦ None ])) said
+    ∙ ap (λ (r : Result State model.Fault). elim r [ Ok s ↦ step_with bench before v label s | Err f ↦ None ]) made
