@@ -1,0 +1,1 @@
+//! The draft beside a file.
