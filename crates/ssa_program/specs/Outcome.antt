@@ -5,13 +5,12 @@ use Rattle.ssa_model.specs.definitions.Limits.{most_input_bytes, most_bench_byte
 use Rattle.ssa_model.specs.definitions.BenchText.{parts}
 use Rattle.ssa_model.specs.definitions.Files.{schema_of_file, bench_of_file}
 use Rattle.ssa_model.specs.definitions.History.{Bench}
-use Rattle.ssa_model.specs.definitions.Parts.{Subresource, main, status}
+use Rattle.ssa_model.specs.definitions.Parts as part
 use Rattle.ssa_model.specs.definitions.RecordedBench.{recorded_text}
 use Rattle.ssa_model.specs.definitions.Schema.{Schema}
 use Rattle.ssa_model.specs.definitions.Subcommands as subcommands
 use Rattle.ssa_model.specs.definitions.Subcommands.{asked_answer, init_text}
 use Rattle.ssa_json.specs.Readings.{readings}
-use Rattle.ssa_merge.specs.States.{actor}
 use Rattle.ssa_bench.specs.Loading.{Loads}
 use Rattle.ssa_disk.specs.Files.{Files, Standing, IsOpened, under}
 use Rattle.ssa_lines.specs.declared.loading.LoadFault.{LoadFault}
@@ -59,13 +58,13 @@ answered bench asked = record {
 }
 
 -- what an `apply` or an `update` asks, by the bytes of the object's file
-abbrev pub part_of : Bool → Subresource
-part_of true = status
-part_of false = main
+abbrev pub part_of : Bool → part.Subresource
+part_of true = part.status
+part_of false = part.main
 
 abbrev pub IsAskedBy : Call → Text → subcommands.Asked → Type 0
-IsAskedBy (Apply bench file at manager status force) object asked = asked ≡ subcommands.apply (actor manager.now (part_of status)) force at.now object
-IsAskedBy (Update bench file at manager status) object asked = asked ≡ subcommands.update (actor manager.now (part_of status)) at.now object
+IsAskedBy (Apply bench file at manager status force) object asked = asked ≡ subcommands.apply (record { name = manager.now; part = part_of status }) force at.now object
+IsAskedBy (Update bench file at manager status) object asked = asked ≡ subcommands.update (record { name = manager.now; part = part_of status }) at.now object
 IsAskedBy _ object asked = ⊥
 
 abbrev pub IsChange : Call → Type 0

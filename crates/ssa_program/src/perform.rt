@@ -64,12 +64,17 @@ pub fn perform<D: Disk, R: Source, W: Sink, E: Sink>(
         E.contents E.has_failed errors.old errors.new (R.remaining reader.old) (R.remaining reader.new) call.now result }
 {
     let mut notes = Notes::new(alloc);
-    let status = match carry_out(disk, alloc, call, reader, writer, &mut notes) {
-        Ok(status) => status,
-        Err(trouble) => tell_trouble(alloc, &trouble, writer, errors),
-    };
-    notes.tell(errors);
-    status.code()
+    match carry_out(disk, alloc, call, reader, writer, &mut notes) {
+        Ok(status) => {
+            notes.tell(errors);
+            status.code()
+        }
+        Err(trouble) => {
+            let status = tell_trouble(alloc, &trouble, writer, errors);
+            notes.tell(errors);
+            status.code()
+        }
+    }
 }
 
 fn carry_out<'a, D: Disk, R: Source, W: Sink>(
