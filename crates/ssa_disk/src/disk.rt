@@ -102,14 +102,12 @@ pub trait Disk {
         ensures others { OnOk result (IsAsBut name.now (view self.old) (view self.new)) }
         ensures err { OnErr result (view self.new ≡ view self.old) };
 
-    /// Gives the file that was made under this name the access of the one that was found, and waits until the device has
-    /// all that was written to it.
-    fn settle(
-        &mut self,
-        name: &str,
-        made: &mut Self::Made,
-        found: Option<&Self::Found>,
-    ) -> Result<(), DeviceFault>
+    /// Gives the file that was made under this name the access of one that was found.
+    fn give_access(&mut self, name: &str, made: &Self::Made, found: &Self::Found) -> Result<(), DeviceFault>
+        ensures { IsAsBut name.now (view self.old) (view self.new) };
+
+    /// Waits until the device has all that was written to the file that was made under this name.
+    fn settle(&mut self, name: &str, made: &mut Self::Made) -> Result<(), DeviceFault>
         ensures ok { OnOk result (tells ≡ true → (c : List ℕ) → Self.Made.contents made.old ≡ Some c → under (view self.new) name.now ≡ file c) }
         ensures others { IsAsBut name.now (view self.old) (view self.new) };
 

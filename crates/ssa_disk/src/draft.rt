@@ -70,6 +70,19 @@ pub fn take<D: Disk>(
     }
 }
 
+/// Gives the draft the access of the file whose place it takes, where there is one.
+pub fn give_access<D: Disk>(
+    disk: &mut D,
+    draft: &Draft<D::Made, D::Found>,
+) -> Result<(), DeviceFault>
+    ensures { IsAsBut (string_bytes draft.now.name) (D.view disk.old) (D.view disk.new) }
+{
+    match &draft.place.found {
+        Some(found) => disk.give_access(draft.name.as_str(), &draft.made, found),
+        None => Ok(()),
+    }
+}
+
 /// Puts the draft, with what was written to it, in the place of its file, which until then is as it was.
 pub fn put<D: Disk>(disk: &mut D, draft: &mut Draft<D::Made, D::Found>) -> Result<(), DeviceFault>
     ensures name { draft.new.name ≡ draft.old.name }
@@ -81,11 +94,7 @@ pub fn put<D: Disk>(disk: &mut D, draft: &mut Draft<D::Made, D::Found>) -> Resul
     ensures others { OnOk result (IsAsButTwo (string_bytes draft.old.name) (string_bytes draft.old.place.name) (D.view disk.old) (D.view disk.new)) }
     ensures err { OnErr result (IsAsBut (string_bytes draft.old.name) (D.view disk.old) (D.view disk.new)) }
 {
-    disk.settle(
-        draft.name.as_str(),
-        &mut draft.made,
-        draft.place.found.as_ref(),
-    )?;
+    disk.settle(draft.name.as_str(), &mut draft.made)?;
     disk.rename(draft.name.as_str(), draft.place.name.as_str())?;
     draft.is_placed = true;
     Ok(())

@@ -223,17 +223,19 @@ impl<'a, T: Files> Disk for OfFiles<'a, T> {
         }
     }
 
-    fn settle(
+    fn give_access(
         &mut self,
         name: &str,
-        made: &mut MadeFile<T::File>,
-        found: Option<&Metadata>,
+        made: &MadeFile<T::File>,
+        found: &Metadata,
     ) -> Result<(), DeviceFault> {
-        if let Some(found) = found
-            && keep_access(self.rt, name, &made.file, found).is_err()
-        {
-            return Err(DeviceFault);
+        match keep_access(self.rt, name, &made.file, found) {
+            Ok(()) => Ok(()),
+            Err(_) => Err(DeviceFault),
         }
+    }
+
+    fn settle(&mut self, _name: &str, made: &mut MadeFile<T::File>) -> Result<(), DeviceFault> {
         match made.file.sync_all() {
             Ok(()) => Ok(()),
             Err(_) => Err(DeviceFault),

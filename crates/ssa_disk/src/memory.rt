@@ -116,12 +116,16 @@ impl Disk for Memory {
         }
     }
 
-    fn settle(
+    fn give_access(
         &mut self,
-        name: &str,
-        made: &mut OfWriter<Vec<u8>>,
-        _found: Option<&()>,
+        _name: &str,
+        _made: &OfWriter<Vec<u8>>,
+        _found: &(),
     ) -> Result<(), DeviceFault> {
+        Ok(())
+    }
+
+    fn settle(&mut self, name: &str, made: &mut OfWriter<Vec<u8>>) -> Result<(), DeviceFault> {
         let made = replace(made, OfWriter::new(Vec::new(self.alloc)));
         self.note(name, Some(made.into_inner()))
     }

@@ -10,7 +10,7 @@ ghost use Rattle.ssa_program.specs.Trouble.{IsDraftTrouble, IsPlaceTrouble, IsSa
 use crate::trouble::Trouble;
 use ssa_bench::bench::Bench;
 use ssa_disk::disk::{Disk, Place, PlaceFault};
-use ssa_disk::draft::{Draft, TakeFault, put, take};
+use ssa_disk::draft::{Draft, TakeFault, give_access, put, take};
 use ssa_lines::saving::SaveFault;
 use std::alloc::Global;
 
@@ -93,6 +93,9 @@ pub fn put_draft<'a, D: Disk>(
     ensures err { OnErr result (IsAsBut (string_bytes draft.old.name) (D.view disk.old) (D.view disk.new)) }
     ensures trouble { IfErr result (IsSaveTrouble name.now (recorded_text parts bench.now)) }
 {
+    if give_access(disk, draft).is_err() {
+        return Err(Trouble::CannotWrite(name));
+    }
     match bench.save(alloc, &mut draft.made) {
         Ok(()) => {}
         Err(SaveFault::BenchTooLong) => return Err(Trouble::BenchTooLong),
