@@ -103,7 +103,12 @@ pub trait Disk {
         ensures err { OnErr result (view self.new ≡ view self.old) };
 
     /// Gives the file that was made under this name the access of one that was found.
-    fn give_access(&mut self, name: &str, made: &Self::Made, found: &Self::Found) -> Result<(), DeviceFault>
+    fn give_access(
+        &mut self,
+        name: &str,
+        made: &Self::Made,
+        found: &Self::Found,
+    ) -> Result<(), DeviceFault>
         ensures { IsAsBut name.now (view self.old) (view self.new) };
 
     /// Waits until the device has all that was written to the file that was made under this name.

@@ -1,13 +1,11 @@
 //! The files of a disk, and the draft that takes a file's place.
 //!
-//! All that the program does to files goes through a [`Disk`]. [`OfFiles`] makes one of the files of the machine, and
-//! [`Memory`] is one for tests.
+//! All that the program does to files goes through a [`Disk`]. [`OfFiles`] makes one of the files of the machine.
 #![tactic(auto)]
 
 pub mod disk;
 pub mod draft;
 pub mod files;
-pub mod memory;
 
 pub use disk::{Disk, MakeFault, Place, PlaceFault, ReadFault};
 pub use draft::Draft;
