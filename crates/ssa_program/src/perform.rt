@@ -20,9 +20,10 @@ use ssa_json::sink::Sink;
 use ssa_json::source::Source;
 use ssa_lines::write_line::write_reply;
 use ssa_path::part::Part;
+use ssa_reverse::depth::Depth;
 use ssa_schema::schema::Schema;
 use ssa_session::bench_session::session;
-use ssa_session::files::{bench_of, schema_of};
+use ssa_session::files::{bench_with, schema_of};
 use ssa_session::reply_text::init_text;
 use ssa_words::call::Call;
 use std::alloc::Global;
@@ -62,7 +63,8 @@ fn carry_out<'a, T: Files + AllocGlobal, R: Source, W: Sink>(
             schema,
             object,
             bench,
-        } => init(rt, writer, notes, schema, object, bench),
+            depth,
+        } => init(rt, writer, notes, schema, object, bench, depth),
         Call::Apply {
             bench,
             file,
@@ -131,7 +133,7 @@ fn made_schema<'a>(
     }
 }
 
-// The bench of the bytes of a file, under the schema that these other bytes are.
+// The bench of the bytes of a file and of this depth, under the schema that these other bytes are.
 fn made_bench<'a>(
     alloc: Global,
     notes: &mut Notes,
@@ -139,8 +141,9 @@ fn made_bench<'a>(
     schema_bytes: &[u8],
     name: &str,
     bytes: &[u8],
+    depth: Depth,
 ) -> Result<Bench, Trouble<'a>> {
-    match bench_of(alloc, schema, bytes) {
+    match bench_with(alloc, schema, bytes, depth) {
         Ok(bench) => Ok(bench),
         Err(fault) => {
             notes.about_object(alloc, name, bytes, schema_bytes, &fault);
@@ -158,6 +161,7 @@ fn init<'a, T: Files + AllocGlobal, W: Sink>(
     schema: &'a str,
     object: &'a str,
     bench: &'a str,
+    depth: Depth,
 ) -> Result<Status, Trouble<'a>> {
     let alloc = rt.alloc();
     let place = Place::of(rt, bench)?;
@@ -167,7 +171,15 @@ fn init<'a, T: Files + AllocGlobal, W: Sink>(
     let schema_bytes = read_file(rt, schema)?;
     let read = made_schema(alloc, notes, schema, &schema_bytes)?;
     let object_bytes = read_file(rt, object)?;
-    let made = made_bench(alloc, notes, read, &schema_bytes, object, &object_bytes)?;
+    let made = made_bench(
+        alloc,
+        notes,
+        read,
+        &schema_bytes,
+        object,
+        &object_bytes,
+        depth,
+    )?;
     let made = ManuallyDrop::new(made);
     save_new(rt, writer, place, bench, &made)
 }

@@ -56,7 +56,7 @@ pub data Code : Type 0 where
 
 -- ---- the table
 
--- the number and the name of a fault
+-- The number and the name of a fault. 63 is the number of none and stays so: it was that of a history that is full, which forgets now.
 abbrev pub row_of : Code → ℕ × Text
 row_of not_json = (1, codes "NotJson")
 row_of null_value = (2, codes "NullValue")
