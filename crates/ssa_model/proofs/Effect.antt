@@ -8,16 +8,17 @@ use Rattle.ssa_model.specs.definitions.Parts.{Actor}
 use Rattle.ssa_model.specs.definitions.Operations.{State, Refusal}
 use Rattle.ssa_model.specs.definitions.History.{Step, Timeline, Bench, present, past_len, future_len, last_state, appended, forgotten, moved_to, with_timeline, is_manager_name}
 use Rattle.ssa_model.specs.definitions.Answers.{Answer, Reply, moved, shown, owned_by, logged, refused, manager_name, no_subresource, has_part, nothing_to_undo, nothing_to_redo, Fault, fault, Command, apply, update, strip, undo, redo, show, owners, log, answer, accept, accept_or_refuse, with_body, apply_answer, command_body}
+use Rattle.ssa_model.proofs.Answered.{answers-hold}
 use Rattle.ssa_model.specs.definitions.Effect.{Deeds, with_deed, deeds_to, is_accepted, body_in, deed_of, Deed, applying, updating, stripping, label_of, carried_out, and_then, all_carried_out, AreSteps, IsHistory, KeepsHistory, PresentIsCarriedOut, HistoriesAreCarriedOut}
 
-steps-take : (n : ℕ) (s : State) (ds : List Deed) (ts : List Step) → AreSteps s ds ts → AreSteps s (take n ds) (take n ts)
+pub steps-take : (n : ℕ) (s : State) (ds : List Deed) (ts : List Step) → AreSteps s ds ts → AreSteps s (take n ds) (take n ts)
 steps-take zero s ds ts h = tt
 steps-take (suc n) s [] [] h = tt
 steps-take (suc n) s [] (t ∷ ts) h = h
 steps-take (suc n) s (d ∷ ds) [] h = h
 steps-take (suc n) s (d ∷ ds) (t ∷ ts) h = (h.0, h.1, steps-take n t.state ds ts h.2)
 
-steps-push : (s : State) (ds : List Deed) (ts : List Step) (d : Deed) (t : Step) → AreSteps s ds ts
+pub steps-push : (s : State) (ds : List Deed) (ts : List Step) (d : Deed) (t : Step) → AreSteps s ds ts
     → t.label ≡ label_of d → carried_out (last_state s ts) d ≡ Ok t.state → AreSteps s (ds ++ d ∷ []) (ts ++ t ∷ [])
 steps-push s [] [] d t h l e = (l, e, tt)
 steps-push s [] (u ∷ ts) d t h l e = absurd h
@@ -68,7 +69,7 @@ forget-one origin first (t ∷ ts) place gone (d ∷ ds) h = record {
     less : (n m : ℕ) → n ≤ suc m → n - 1 ≤ m
     less n m le = omega (arith, le)
 
-longer : (n : ℕ) (ts : List Step) (t : Step) → n ≤ length ts → n + 1 ≤ length (take n ts ++ t ∷ [])
+pub longer : (n : ℕ) (ts : List Step) (t : Step) → n ≤ length ts → n + 1 ≤ length (take n ts ++ t ∷ [])
 longer n ts t h = grind (arith, length-append (take n ts) (t ∷ []), length-take n ts)
 
 module _ (origin : State) (bench : Bench) (h : IsHistory origin bench.timeline) where
@@ -104,57 +105,12 @@ module _ (origin : State) (bench : Bench) (h : IsHistory origin bench.timeline) 
         deeds = ap (λ o. elim o [ None ↦ h.deeds | Some e ↦ with_deed bench.depth t.place h.deeds e ]) (sym own);
       }
 
-  given : (c : Command) (word : Text) (d : Deed) (r : Result State Refusal) → deed_of bench c ≡ Some d → carried_out (present bench.timeline) d ≡ r
-      → Keeps c (accept_or_refuse bench word (label_of d) r)
-  given c word d (Ok s) own e = accepted c word d s own e
-  given c word d (Err r) own e = same c (fault (refused r)) refl
-
-  one_of : (c : Command) (b : Bool) (x y : Answer) → Keeps c x → Keeps c y → Keeps c (if b then x else y)
-  one_of c true x y p q = p
-  one_of c false x y p q = q
-
-  of_body : (c : Command) (r : Result Body Fault) (go : Body → Answer) → ((body : Body) → r ≡ Ok body → Keeps c (go body))
-      → Keeps c (elim r [ Ok body ↦ go body | Err f ↦ (fault f, bench) ])
-  of_body c (Ok body) go p = p body refl
-  of_body c (Err f) go p = same c (fault f) refl
-
-  with_body-keeps : (c : Command) (who : Actor) (v : Json) (go : Body → Answer) → ((body : Body) → command_body bench v ≡ Ok body → Keeps c (go body))
-      → Keeps c (with_body bench who v go)
-  with_body-keeps c who v go p =
-      one_of c (not (is_manager_name who.name)) _ _ (same c (fault manager_name) refl)
-      (one_of c (not (has_part bench.schema.kind who.part)) _ _ (same c (fault no_subresource) refl) (of_body c (command_body bench v) go p))
-
   goes : (c : Command) (word : Text) (past future n : ℕ) → n ≤ length bench.timeline.later
       → Keeps c (moved word past future, with_timeline bench (moved_to bench.timeline n))
   goes c word past future n fits = record { history = record { deeds = h.deeds; first = h.first; steps = h.steps; place = fits }; deeds = refl }
 
-  unless : (c : Command) (b : Bool) (x y : Answer) → Keeps c x → (b ≡ false → Keeps c y) → Keeps c (if b then x else y)
-  unless c true x y p q = p
-  unless c false x y p q = q refl
-
-  back : (n m : ℕ) → n ≤ m → n - 1 ≤ m
-  back n m le = omega (arith, le)
-
-  forth : (n m : ℕ) → (m - n == 0) ≡ false → n + 1 ≤ m
-  forth n m e = grind (arith, nat_tests)
-
   keeps : (c : Command) → Keeps c (answer bench c)
-  keeps (apply who force at v) =
-      with_body-keeps (apply who force at v) who v (apply_answer bench who force at)
-      (λ config e. given (apply who force at v) (codes "apply") (applying who force at config) _ (ap (λ r. option_map (applying who force at) (body_in r)) e)
-      refl)
-  keeps (update who at v) =
-      with_body-keeps (update who at v) who v _
-      (λ body e. given (update who at v) (codes "update") (updating who at body) _ (ap (λ r. option_map (updating who at) (body_in r)) e) refl)
-  keeps strip = accepted strip (codes "strip") stripping _ refl refl
-  keeps undo = one_of undo (past_len bench.timeline == 0) _ _ (same undo (fault nothing_to_undo) refl)
-      (goes undo (codes "undo") _ _ (bench.timeline.place - 1) (back bench.timeline.place (length bench.timeline.later) h.place))
-  keeps redo =
-      unless redo (future_len bench.timeline == 0) _ _ (same redo (fault nothing_to_redo) refl)
-      (λ e. goes redo (codes "redo") _ _ (bench.timeline.place + 1) (forth bench.timeline.place (length bench.timeline.later) e))
-  keeps (show managed) = same (show managed) (shown _) refl
-  keeps (owners p) = same (owners p) (owned_by _) refl
-  keeps log = same log (logged _ _) refl
+  keeps = answers-hold bench Keeps same accepted goes h.place
 
 -- an answer keeps a history of deeds, and the present state is what those up to the place make
 pub histories_are_carried_out : HistoriesAreCarriedOut

@@ -1,15 +1,15 @@
 -- The headline, law by law: what stands after any list of commands, and what undo, redo and refusals leave.
-use Rattle.std.specs.Prelude.{◌≡◌, ◌<◌, ◌≤◌, ℕ, ◌+◌, List, [], ◌++◌, Bool, false, true, if◌then◌else◌, length, take, nat_lt, Ok, codes}
+use Rattle.std.specs.Prelude.{◌≡◌, ◌<◌, ◌≤◌, ℕ, ◌+◌, List, [], ◌++◌, Bool, false, true, if◌then◌else◌, length, take, drop, nat_lt, Ok, codes}
 use Rattle.ssa_model.specs.definitions.Json.{Text, Json, same_text}
 use Rattle.ssa_model.specs.definitions.Body.{Body, modified}
 use Rattle.ssa_model.specs.definitions.Parts.{Actor, part_of}
 use Rattle.ssa_model.specs.definitions.Table.{applies, key_of}
 use Rattle.ssa_model.specs.definitions.Operations.{State, Clash, clashes, conflict, pruned}
-use Rattle.ssa_model.specs.definitions.History.{Bench, Timeline, past_len, future_len, forgotten, present}
+use Rattle.ssa_model.specs.definitions.History.{Bench, Step, Timeline, past_len, future_len, forgotten, last_state, present}
 use Rattle.ssa_model.specs.definitions.Answers.{Answer, Command, Fault, apply, undo, redo, fault, moved, refused, answer, command_body, run}
 use Rattle.ssa_model.specs.definitions.Readings.{Readings}
 use Rattle.ssa_model.specs.definitions.Session.{line_answer, out_of_memory_text, too_long_text}
-use Rattle.ssa_model.specs.definitions.Effect.{Deeds, IsHistory, all_carried_out, deeds_of_run, deeds_to, in_effect, is_accepted}
+use Rattle.ssa_model.specs.definitions.Effect.{AreSteps, Deed, Deeds, IsHistory, all_carried_out, deeds_of_run, deeds_to, in_effect, is_accepted}
 
 -- the timeline has one state, as that of a bench made from an object file
 abbrev pub IsAlone : Timeline → Type 0
@@ -32,6 +32,23 @@ pub record KeepsRun (origin : State) (bench : Bench) (before : Deeds) (cs : List
 
 abbrev pub RunKeepsHistory : Type 0
 RunKeepsHistory = (origin : State) (bench : Bench) (cs : List Command) (before : IsHistory origin bench.timeline) → KeepsRun origin bench before.deeds cs
+
+-- What stands after commands on a history, whatever made the states that were there: those of them up to a place, and behind these others,
+-- each its deed carried out on the one before it. Of all of these the oldest are forgotten.
+pub record GoesOn (old new : Timeline) : Type 0 where
+  pub kept : ℕ
+  pub deeds : List Deed
+  pub made : List Step
+  pub steps : AreSteps (last_state old.first (take kept old.later)) deeds made
+  pub gone : ℕ
+  pub few : gone ≤ length (take kept old.later ++ made)
+  pub first : new.first ≡ last_state old.first (take gone (take kept old.later ++ made))
+  pub later : new.later ≡ drop gone (take kept old.later ++ made)
+  pub place : new.place ≤ length new.later
+
+-- after a list of commands on any bench its history goes on so
+abbrev pub RunGoesOn : Type 0
+RunGoesOn = (bench : Bench) (cs : List Command) → bench.timeline.place ≤ length bench.timeline.later → GoesOn bench.timeline (run bench cs).1.timeline
 
 -- the states up to the place
 abbrev pub up_to_place : Timeline → Timeline
