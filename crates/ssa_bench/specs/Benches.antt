@@ -14,7 +14,7 @@ use Rattle.ssa_model.specs.definitions.Operations as operations
 use Rattle.ssa_model.specs.definitions.Operations.{update}
 use Rattle.ssa_model.specs.definitions.Answers as answers
 use Rattle.ssa_model.specs.definitions.Answers.{Answer}
-use Rattle.ssa_model.specs.definitions.Valid.{IsValidState}
+use Rattle.ssa_model.specs.definitions.Valid.{IsNextStep, IsValidState}
 use Rattle.ssa_json.specs.Readings.{readings}
 use Rattle.ssa_merge.specs.States.{state_view}
 use Rattle.ssa_merge.specs.TableChanges.{changed_table}
@@ -97,11 +97,12 @@ pub record IsRefused (bench : model.Bench) (f : Fault) (given : Answer) : Type 0
   pub told : IsFault f cause
   pub stays : given.1 ≡ bench
 
--- the answer tells what is prepared, whose record leads from the present state to a valid one, with room for its turns
+-- the answer tells what is prepared, whose record leads from the present state to a valid one by which the history may go on, with room for its turns
 pub record IsAccepted (bench : model.Bench) (p : Prepared) (given : Answer) (word : Text) : Type 0 where
   pub reply : given.0 ≡ answers.changed word (changed_view p.changed)
   pub next : given.1 ≡ next_bench bench p
   pub valid : LeadsToValid bench p
+  pub step : IsNextStep bench.timeline (label_view p.step.value.1) (led_to bench p)
   pub fits : IsTaken (state_steps p.step.value.0) (present bench.timeline) (led_to bench p)
   pub room : HasStateRoom p.step.value.0 (present bench.timeline)
   pub back : HasTableBack (led_to bench p)

@@ -1,9 +1,9 @@
 //! The first line of a bench file: in which format the file is, and the numbers that stand there.
-ghost use Rattle.std.specs.Prelude.{◌≡◌, ◌≤◌, ◌<◌, ◌+◌, ◌^◌, IfOk, IfSome, option_map};
+ghost use Rattle.std.specs.Prelude.{◌≡◌, ◌≤◌, ◌<◌, ◌+◌, ◌^◌, ◌&&◌, IfOk, IfSome, nat_le, option_map};
 ghost use Rattle.ssa_model.specs.definitions.BenchText.{head_of};
 ghost use Rattle.ssa_model.specs.definitions.Json.{member_at};
 ghost use Rattle.ssa_model.specs.definitions.Limits.{most_past};
-ghost use Rattle.ssa_model.specs.laws.BenchFiles.{head_in, is_written_as, number_in};
+ghost use Rattle.ssa_model.specs.laws.BenchFiles.{given_if, head_in, is_written_as, number_in};
 ghost use Rattle.ssa_model.specs.laws.Formats.{file_head};
 ghost use Rattle.ssa_model.specs.laws.RecordedBenches.{counts_in, format_in, record_format};
 ghost use Rattle.ssa_json.specs.View.{view};
@@ -120,6 +120,14 @@ fn format_in(value: &Json) -> Option<RecordFormat>
     format_of(number_in(value, "format")?)
 }
 
+// The depth of this number, where a bench may be so deep.
+fn depth_of(number: usize) -> Option<Depth>
+    ensures { result ≡ given_if (nat_le 1 number && nat_le number most_past) number }
+{
+    let number = u16::try_from(number).ok()?;
+    Depth::new(number)
+}
+
 // The depth that a first line of the format says, where a bench may be so deep: the greatest in a format that does not tell
 // of it.
 fn depth_in(value: &Json, format: RecordFormat) -> Option<Depth>
@@ -127,7 +135,7 @@ fn depth_in(value: &Json, format: RecordFormat) -> Option<Depth>
 {
     match format {
         RecordFormat::Records | RecordFormat::Parts => Some(Depth::greatest()),
-        RecordFormat::Depths => Depth::new(u16::try_from(number_in(value, "depth")?).ok()?),
+        RecordFormat::Depths => depth_of(number_in(value, "depth")?),
     }
 }
 

@@ -6,10 +6,7 @@
 //!
 //! ```
 //! let head = json(rt.alloc(), r#"{"depth":10,"format":4,"future":0,"past":1}"#)?;
-//! let counts = record_counts(rt.alloc(), &head)?;
-//! let Some(counts) = counts else {
-//!     return Err(Fail::from("no head"));
-//! };
+//! let counts = record_counts(rt.alloc(), &head)?.ok_or("no head")?;
 //! assert_eq!(rt; counts.format, RecordFormat::Depths);
 //! assert_eq!(rt; counts.depth.number(), 10);
 //! assert_eq!(rt; (counts.past, counts.future), (1, 0));

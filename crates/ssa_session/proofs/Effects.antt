@@ -69,7 +69,7 @@ pub record Laws : Type 0 where
   pub told : AnswersAreTold
   -- a list of commands is carried out by one part of it after the other
   pub runs : RunsGoOn
-  -- the state at the place is the commands in effect, carried out on the first state
+  -- the state at the place is the commands in effect, carried out on the state that the bench was made from
   pub effect : RunIsInEffect
   -- a history whose states are made by commands stays one
   pub history : RunKeepsHistory
@@ -88,7 +88,7 @@ module _ (laws : Laws) where
   replies-are_run old new ls ts r =
       let cs = commands_of ls ts in
       let is_run : Bench → Type 0 = λ b. IsRunOf old b cs in
-      subst is_run (sym (replies-run old new ls ts r)) (record { run_is = refl; in_effect = laws.effect old cs; history = laws.history old cs })
+      subst is_run (sym (replies-run old new ls ts r)) (record { run_is = refl; in_effect = laws.effect old cs; history = λ origin before. laws.history origin old cs before })
 
   module _ (left left_after written written_after : Option (List ℕ)) (old new : Bench) where
     -- where every line is answered, the bench is that of the lines' commands

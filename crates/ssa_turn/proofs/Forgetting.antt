@@ -1,7 +1,7 @@
 -- A journal without its oldest record tells the states in a row without the oldest.
 use Rattle.std.proofs.Common.{◌≡◌, ℕ, ◌+◌, ◌-◌, ◌<◌, List, [], ◌∷◌, ◌++◌, length, map, drop, reverse, refl, sym, subst, ap, ◌∙◌, arith}
 use Rattle.std.proofs.lemmas.Grind.{reverse_onto}
-use Rattle.std.proofs.lemmas.List.{length-append}
+use Rattle.std.proofs.lemmas.List.{length-append, length-reverse}
 use Rattle.std.proofs.lemmas.List.Elements.{All-head, All-tail}
 use Rattle.std.specs.List.{All}
 use Rattle.ssa_model.specs.definitions.History as model
@@ -9,7 +9,7 @@ use Rattle.ssa_model.specs.definitions.History.{forgotten, past_len}
 use Rattle.ssa_model.specs.definitions.Operations.{State}
 use Rattle.ssa_model.specs.definitions.RecordedBench.{HasReadStep}
 use Rattle.ssa_json.specs.Readings.{readings}
-use Rattle.ssa_reverse.specs.Timeline.{Timeline, steps_along}
+use Rattle.ssa_reverse.specs.Timeline.{Timeline, steps_along, steps-length}
 use Rattle.ssa_turn.specs.Dated.{MakesDated}
 use Rattle.ssa_turn.specs.Histories.{first_of, in_a_row, step_of, steps_to}
 use Rattle.ssa_turn.specs.TablesBack.{MakesTableBack}
@@ -49,7 +49,7 @@ module _ {D : Type 0} (leads : D → State → State) where
       (rest.0, ap (λ ss. (leads q.0 v, q.1) ∷ ss) rest.1)
 
   -- the records back without the oldest, which stands first among them, lead to the states in a row without the first
-  pub dropped-is : (rs : List (D × Label)) (v : State) (future : Past) → 0 < length rs
+  dropped-is : (rs : List (D × Label)) (v : State) (future : Past) → 0 < length rs
       → in_a_row (at_present (steps_along leads (reverse (drop 1 rs)) v) v future)
       ≡ forgotten (in_a_row (at_present (steps_along leads (reverse rs) v) v future))
   dropped-is [] v future some = absurd (omega (arith, some))
@@ -57,6 +57,15 @@ module _ {D : Type 0} (leads : D → State → State) where
       let last = steps-along-oldest (reverse rs) r v in
       without-oldest (steps_along leads (reverse rs) v) (last.0, r.1) v future
       ∙ ap (λ past. forgotten (in_a_row (at_present past v future))) (sym (ap (λ xs. steps_along leads xs v) (reverse_onto rs r []) ∙ last.1))
+
+  -- where the records back are those of before without the oldest, the row is that of before without its first state
+  pub forgotten-row : (past kept ahead after : List (D × Label)) (v : State) (now : model.Timeline) → kept ≡ drop 1 past → after ≡ ahead
+      → in_a_row (at_present (steps_along leads (reverse past) v) v (steps_along leads ahead v)) ≡ now → 0 < past_len now
+      → in_a_row (at_present (steps_along leads (reverse kept) v) v (steps_along leads after v)) ≡ forgotten now
+  forgotten-row past kept ahead after v now back on is some =
+      let many = steps-length leads (reverse past) v ∙ length-reverse past in
+      (λ i. in_a_row (at_present (steps_along leads (reverse (back i)) v) v (steps_along leads (on i) v)))
+      ∙ dropped-is past v (steps_along leads ahead v) (subst (λ n. 0 < n) (sym (ap past_len is) ∙ many) some) ∙ ap forgotten is
 
 -- a history that is read back stays so without its oldest state
 pub forgotten-back : (t : model.Timeline) → IsReadBack t → IsReadBack (forgotten t)

@@ -229,7 +229,7 @@ impl Timeline {
         requires { 0 < past_len self.old }
         ensures { self.new ≡ forgotten self.old }
     {
-        let _forgot = self.journal.forget();
+        self.journal.forget();
     }
 
     /// Drops the oldest state where more than `depth` stand before the place. Takes no memory.

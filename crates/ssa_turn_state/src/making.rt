@@ -118,6 +118,22 @@ impl StateDelta {
         ensures leads { IfOk result (λ d. carry (state_steps d) (state_view from.now) ≡ state_view to) }
         ensures bound { IfOk result (λ d. record_size (state_steps d) ≤ facts (state_view from.now) (state_view to)) }
         ensures room { IfOk result (λ d. HasStateRoom d (state_view from.now)) }
+
+        // It leads to the other state, and holds no more than the facts in which the two differ.
+        ensures leads { IfOk result (λ d. carry (state_steps d) (state_view from.now) ≡ state_view to) }
+        ensures bound { IfOk result (λ d. record_size (state_steps d) ≤ facts (state_view from.now) (state_view to)) }
+    {
+        record_leads();
+        size_bound();
+        StateDelta::of_states(alloc, from, to)
+    }
+
+    // The same, without what the laws say of it.
+    fn of_states(alloc: Global, from: &State, to: State) -> Result<StateDelta, AllocError>
+        requires valid { (kind : Kind) × IsValidState kind (state_view from.now) × IsValidState kind (state_view to) }
+        requires order { KeepsOrder (state_view from.now).table (state_view to).table }
+        ensures record { IfOk result (λ d. state_steps d ≡ record_of (state_view from.now) (state_view to)) }
+        ensures room { IfOk result (λ d. HasStateRoom d (state_view from.now)) }
     {
         record_leads();
         size_bound();
