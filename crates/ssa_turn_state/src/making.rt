@@ -102,12 +102,32 @@ impl StateDelta {
     {
         record_leads();
         size_bound();
+        StateDelta::of_parts(alloc, state, body, comparison, table)
+    }
+
+    // The same, without what the laws say of it.
+    fn of_parts(
+        alloc: Global,
+        state: &State,
+        body: NewBody,
+        comparison: &Comparison,
+        table: TableChange,
+    ) -> Result<StateDelta, AllocError>
+        requires stands { CanStand body comparison.now.removed state.now.body }
+        requires compared { IsComparison state.now.body (body_after body comparison.now.removed state.now.body) comparison.now }
+        requires valid { (kind : Kind) × IsValidState kind (state_view state.now) × IsValidState kind (changed_state (state_view state.now) body comparison.now.removed table) }
+        requires leads { LeadsTo (state_view state.now).table table (changed_table table (state_view state.now).table) }
+        requires order { KeepsOrder (state_view state.now).table (changed_table table (state_view state.now).table) }
+        ensures record { IfOk result (λ d. state_steps d ≡ record_of (state_view state.now) (changed_state (state_view state.now) body comparison.now.removed table)) }
+        ensures room { IfOk result (λ d. HasStateRoom d (state_view state.now)) }
+    {
         let body = body_steps(alloc, &state.body, body, comparison)?;
         let table = table_delta(alloc, state.managers.entries(), table)?;
         Ok(StateDelta { body, table })
     }
 
-    /// The record that leads from one state to another, with room for every turn of it.
+    /// The record that leads from one state to another, with room for every turn of it. It holds no more than the facts in
+    /// which the two differ.
     ///
     /// All memory that its turns want is taken here; `Err` comes where it is refused. The sets of a
     /// manager of both states are compared.
@@ -118,10 +138,6 @@ impl StateDelta {
         ensures leads { IfOk result (λ d. carry (state_steps d) (state_view from.now) ≡ state_view to) }
         ensures bound { IfOk result (λ d. record_size (state_steps d) ≤ facts (state_view from.now) (state_view to)) }
         ensures room { IfOk result (λ d. HasStateRoom d (state_view from.now)) }
-
-        // It leads to the other state, and holds no more than the facts in which the two differ.
-        ensures leads { IfOk result (λ d. carry (state_steps d) (state_view from.now) ≡ state_view to) }
-        ensures bound { IfOk result (λ d. record_size (state_steps d) ≤ facts (state_view from.now) (state_view to)) }
     {
         record_leads();
         size_bound();
@@ -135,8 +151,6 @@ impl StateDelta {
         ensures record { IfOk result (λ d. state_steps d ≡ record_of (state_view from.now) (state_view to)) }
         ensures room { IfOk result (λ d. HasStateRoom d (state_view from.now)) }
     {
-        record_leads();
-        size_bound();
         let State { body, managers } = to;
         let body = whole_steps(alloc, &from.body, body)?;
         let table = table_between(alloc, from.managers.entries(), managers.entries())?;

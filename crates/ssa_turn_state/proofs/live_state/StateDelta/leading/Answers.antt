@@ -4,7 +4,7 @@ use Rattle.std.proofs.lemmas.Result.{IfOk-weaker}
 use Rattle.ssa_model.specs.definitions.Carry.{carry}
 use Rattle.ssa_model.specs.definitions.Facts.{facts, record_size}
 use Rattle.ssa_merge.specs.States.{state_view}
-use Rattle.ssa_turn_state.proofs.making.StateDelta.leading.Goals as goal
+use Rattle.ssa_turn_state.proofs.live_state.StateDelta.leading.Goals as goal
 
 pub returns-clause-leads : goal.returns-clause-leads
 returns-clause-leads c =
