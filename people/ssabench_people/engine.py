@@ -22,6 +22,15 @@ def program():
     return path
 
 
+def version():
+    """The proved program's name and version, and where it stands."""
+    try:
+        ran = subprocess.run([program(), "--version"], capture_output=True, text=True, encoding="utf-8", check=False)
+    except OSError as fault:
+        raise Refusal(f"cannot run {program()}: {fault.strerror}", 3) from fault
+    return f"{ran.stdout.strip()}, {program()}"
+
+
 def called(*words):
     """A call's status, its reply (None where it printed none) and its lines for people, without the program's name."""
     try:

@@ -1,5 +1,5 @@
 """Objects: what a server shows, or a manifest, as an object of the bench, and back."""
-from .documents import compact
+from .documents import compact, shown_name
 from .elements import named_keys
 from .places import BENCH_METADATA, METADATA, STATUS
 from .refusal import Refusal
@@ -18,13 +18,13 @@ SERVERS_OWN = (
 
 
 def identity(value, name):
-    """The four parts of an object's identity, the namespace being None where there is none."""
+    """The four parts of an object's identity, the namespace being None where there is none. `name` is its file's."""
     metadata = value.get("metadata") if isinstance(value, dict) else None
     if not isinstance(metadata, dict):
-        raise Refusal(f"{name}: no object with metadata")
+        raise Refusal(f"{shown_name(name)}: no object with metadata")
     parts = (value.get("apiVersion"), value.get("kind"), metadata.get("name"), metadata.get("namespace"))
     if not all(isinstance(part, str) and part for part in parts[:3]):
-        raise Refusal(f"{name}: an object has apiVersion, kind and metadata.name")
+        raise Refusal(f"{shown_name(name)}: an object has apiVersion, kind and metadata.name")
     return parts
 
 

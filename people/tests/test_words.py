@@ -106,7 +106,7 @@ class Asking(unittest.TestCase):
             with self.subTest(words=words):
                 self.assertIn(run(*words, "web.bench", folder=self.folder).returncode, (0, 1))
                 self.assertEqual(digests(self.folder), before)
-        self.assertEqual(self.run_well("redo", "web.bench"), "redone: 2 commands can be undone, 0 redone\n")
+        self.assertEqual(self.run_well("redo", "web.bench"), "redone: strip; 2 commands can be undone, 0 redone\n")
 
     def test_server_side_is_taken_and_changes_nothing(self):
         told = self.run_well("apply", "--server-side", *TEAM, *AT, "--dry-run", "web.bench")
