@@ -10,7 +10,7 @@ from .bench import Bench, with_file
 from .changes import Changes, acting
 from .documents import read_documents, shown_name, to_yaml
 from .history import label_line
-from .objects import as_taken, identity, to_bench_object
+from .objects import as_taken, identity, tell_beside_status, to_bench_object
 from .refusal import Refusal
 from .report import Report, counted, line
 from .terminal import say
@@ -57,7 +57,10 @@ def turned_manifests(args, bench):
     for number, (source, given) in enumerate(list(manifests(args, live, report))):
         if number > 0:
             live, report = bench.live(), Report()
-        value = as_taken(given, live, args.does == "update", takes_status, report)
+        replaces = args.does == "update"
+        value = as_taken(given, live, replaces, takes_status, report)
+        if args.subresource:
+            tell_beside_status(value, live, replaces, report)
         turned, _ = to_bench_object(bench.root, value, report)
         if value["metadata"].get("managedFields") is not None:
             turned["metadata"]["managedFields"] = value["metadata"]["managedFields"]

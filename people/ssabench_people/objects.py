@@ -70,8 +70,8 @@ def from_bench_object(root, value, kept):
 
 
 def as_taken(value, live, replaces, takes_status, report):
-    """The manifest without what a server takes from nobody: its own parts of metadata, and a status that is written elsewhere,
-    of which nothing is told where the object is replaced by one with the live status."""
+    """The manifest without what a server takes from nobody: its own parts of metadata, and a status that is written elsewhere.
+    Of what is written elsewhere nothing is told where the object is replaced by one that has it as it is live."""
     metadata = {}
     for name, part in value["metadata"].items():
         if name in SERVERS_OWN and part is not None:
@@ -85,6 +85,16 @@ def as_taken(value, live, replaces, takes_status, report):
     if status is not None and not (replaces and status == live.get("status")):
         report.add(".status", "written through the subresource, left out", "value")
     return given
+
+
+def tell_beside_status(value, live, replaces, report):
+    """Tells what of a manifest is not written through the subresource `status`, of which the proved program takes nothing."""
+    fields = {f".{name}": (part, live.get(name)) for name, part in value.items() if name not in ("apiVersion", "kind", "metadata", "status")}
+    more = {name: part for name, part in value["metadata"].items() if name not in (*IDENTITY, *SERVERS_OWN, "managedFields")}
+    fields |= {f".metadata.{name}": (part, live["metadata"].get(name)) for name, part in more.items()}
+    for way, (part, is_now) in fields.items():
+        if part is not None and not (replaces and part == is_now):
+            report.add(way, "not written through the subresource, left out", "value")
 
 
 def without_repeats(place, value, way, report):
