@@ -141,6 +141,8 @@ def main(words):
     except RecursionError:
         line("a value is nested too deep")
         return 1
+    except KeyboardInterrupt:
+        return 130
     except BrokenPipeError:
         os.dup2(os.open(os.devnull, os.O_WRONLY), sys.stdout.fileno())
         return 3
