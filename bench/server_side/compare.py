@@ -5,8 +5,8 @@
 
 SERVER is the program that `build` makes; SSABENCH names the proved program. Each story begins with an object that the server
 made, which the workbench opens by kubectl-ssabench, and has six commands, each given to both. A story ends where verdicts or
-objects differ, but for the order of lists and emptied containers. With SHOW=REASON each object that differs for this reason is
-printed on standard error, with what it came of.
+objects differ, but for the order of lists and emptied containers. With SHOW=REASON|REASON.. each object that differs for one of
+these is printed on standard error, with what it came of.
 """
 import collections
 import json
@@ -100,7 +100,7 @@ class Stories:
             self.counts["done by both"] += 1
             reason = object_reason(theirs, ours, before)
             self.counts[f"object: {reason or 'equal'}"] += 1
-            if reason and reason == os.environ.get("SHOW"):
+            if reason in os.environ.get("SHOW", "").split("|"):
                 shown = {"live": live, "do": do, "manager": manager, "value": value, "server": theirs, "bench": ours}
                 print(json.dumps(shown), file=sys.stderr)
             if reason and reason not in GOES_ON:
