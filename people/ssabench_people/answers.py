@@ -6,7 +6,6 @@ from .documents import compact, shown_name, to_yaml
 from .elements import bench_way, told_paths, way_of, without_stand_ins
 from .migration import client_side_appliers
 from .report import line
-from .terminal import say
 from .turning import PART_BY_PART
 
 MOST_LINES = 20
