@@ -164,12 +164,12 @@ def _text(value):
 
 
 def do_view(args):
+    if sys.stdout.isatty():
+        raise Refusal(f"view writes a page, which is no text for a terminal: kubectl-ssabench view {args.bench} > bench.html", 2)
     try:
         import jinja2
     except ImportError as missing:
         raise Refusal("view needs the Python library jinja2: apt-get install python3-jinja2", 3) from missing
-    if sys.stdout.isatty():
-        raise Refusal(f"view writes a page, which is no text for a terminal: kubectl-ssabench view {args.bench} > bench.html", 2)
     bench = Bench(args.bench)
     data = page_data(bench, args)
     loader = jinja2.FileSystemLoader(TEMPLATES)
