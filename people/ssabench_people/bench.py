@@ -45,6 +45,7 @@ class Bench:
         except (ValueError, KeyError, TypeError) as fault:
             raise Refusal(f"{places_name(name)}: not what the word open writes", 3) from fault
         if _schema_of(name) not in (None, schema):
+            engine.asked("show", name)  # which ends here where the file is none of a bench
             raise Refusal(f"{places_name(name)} is another bench's: {name} has another schema", 3)
 
     def live(self):
