@@ -120,6 +120,8 @@ def _otherwise(root, changes, value, live):
         keepers = changes.keepers(path)
         of = f"what {', '.join(who(owner) for owner in keepers)} owns there" if keepers else "what nobody owns there"
         found.append({"what": "removes", "path": list(path), "told": f"{way} goes too, with {of}"})
+    for path, way in servers.kept(root, changes):
+        found.append({"what": "keeps", "path": list(path), "told": f"{way} stays: a list that was applied as empty is nobody's there"})
     for path, way, items in servers.orders(changes, Finder(root, value), {path for path, _ in gone}):
         order = ", ".join(way_of((item,)) for item in items)
         found.append({"what": "orders", "path": list(path), "items": items, "told": f"{way} has the order {order}"})
