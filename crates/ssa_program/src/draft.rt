@@ -1,5 +1,6 @@
 //! The draft beside a bench's file: the lock of a call that may save, and what takes the file's place.
 ghost use Rattle.std.specs.Prelude.{◌≡◌, ◌≤◌, ◌<◌, Err, IfErr, OnOk, length};
+ghost use Rattle.ssa_model.specs.definitions.BenchText.{parts};
 ghost use Rattle.ssa_model.specs.definitions.RecordedBench.{recorded_text};
 ghost use Rattle.ssa_model.specs.definitions.Limits.{most_bench_bytes};
 ghost use Rattle.ssa_program.specs.Trouble.{IsDraftTrouble, IsPlaceTrouble, IsSaveTrouble};
@@ -167,8 +168,8 @@ fn write_bench<F: Write + OpenFile>(
     file: &mut F,
     bench: &Bench,
 ) -> Result<(), SaveFault>
-    ensures fits { OnOk result (length (recorded_text bench.now) ≤ most_bench_bytes) }
-    ensures too_long { result ≡ Err SaveFault.BenchTooLong → most_bench_bytes < length (recorded_text bench.now) }
+    ensures fits { OnOk result (length (recorded_text parts bench.now) ≤ most_bench_bytes) }
+    ensures too_long { result ≡ Err SaveFault.BenchTooLong → most_bench_bytes < length (recorded_text parts bench.now) }
 {
     let mut sink = OfWriter::new(&mut *file);
     bench.save(alloc, &mut sink)?;
@@ -197,8 +198,8 @@ pub fn put_draft<'a, T: Files + AllocGlobal>(
     name: &'a str,
     bench: &Bench,
 ) -> Result<(), Trouble<'a>>
-    ensures fits { OnOk result (length (recorded_text bench.now) ≤ most_bench_bytes) }
-    ensures trouble { IfErr result (IsSaveTrouble name.now (recorded_text bench.now)) }
+    ensures fits { OnOk result (length (recorded_text parts bench.now) ≤ most_bench_bytes) }
+    ensures trouble { IfErr result (IsSaveTrouble name.now (recorded_text parts bench.now)) }
 {
     if keep_access(rt, draft).is_err() {
         return Err(Trouble::CannotWrite(name));
