@@ -2,11 +2,12 @@
 
 The rules are those of Kubernetes' own merge. *Removals*: what an applier owned counts with the named fields above it, and so does
 what anybody owns afterwards; what only the first has goes with all that stands below. So an owner holds the named fields above what
-it owns, but no item and no entry of a map. *Order*: the two lists are merged from their heads, led by the items that both have.
+it owns, but no item and no entry of a map. What is owned as empty is not held where an empty list stands in it, which does not
+count for a server: it goes with all that nobody owns in it. *Order*: the two lists are merged from their heads, led by the items that both have.
 """
 import collections
 
-from .changes import topmost
+from .changes import above, topmost
 from .documents import compact
 from .elements import named_keys, way_of
 
@@ -37,8 +38,22 @@ def removals(root, changes):
     """What a server removes beside what the bench does: places with their ways, the topmost ones."""
     last = with_fields_above(root, changes.own_before)
     held = with_fields_above(root, {path for _, paths in changes.sets_after for path in paths})
+    lowest = (last & held) - above(held)
+    held -= {path for path in lowest if _has_uncounted(changes.before.at(path))}
     gone = {path: way_of(path) for path in last - held if changes.after.value(path) is not None}
     return topmost({path: way for path, way in gone.items() if path != ("f:metadata",)})
+
+
+def _has_uncounted(here):
+    """Whether an empty list stands in a place, or an object of nothing else."""
+    return here is not None and any(_is_uncounted(child) for child in here.children())
+
+
+def _is_uncounted(here):
+    if here.place.is_list and not here.place.is_leaf:
+        return here.value == []
+    children = here.children()
+    return bool(children) and all(_is_uncounted(child) for child in children)
 
 
 def merged_order(live, given):

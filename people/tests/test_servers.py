@@ -86,6 +86,19 @@ class Removals(unittest.TestCase):
         before = shown({"items": [{"name": "a"}]}, team=item, other=item)
         self.assertEqual(self.told(before, shown({"items": [{"name": "a"}]}, other=item)), [])
 
+    def test_what_is_owned_as_empty_goes_where_an_empty_list_stands_in_it(self):
+        team, given_up = {"f:probe": {"f:path": {}}}, {"probe": {"path": "/"}}
+        for beside, wanted in (
+            ({"items": [], "limits": {"cpu": "1"}}, [".spec"]),
+            ({"items": [{"name": "a"}], "limits": {"cpu": "1"}}, []),
+            ({"limits": {"cpu": "1"}}, []),
+            ({"limits": {}}, []),
+        ):
+            with self.subTest(beside=beside):
+                self.assertEqual(self.told(shown(given_up | beside, team=team), shown(beside, team={})), wanted)
+        before = shown(given_up | {"items": []}, team=team, other={"f:limits": {}})
+        self.assertEqual(self.told(before, shown({"items": [], "limits": {}}, team={}, other={"f:limits": {}})), [])
+
     def test_fields_above_are_named_ones_only(self):
         path = ("f:spec", "f:items", 'k:{"name":"a"}', "f:probe", "f:path")
         wanted = {path, path[:1], path[:2], path[:4]}
