@@ -3,7 +3,8 @@
 The rules are those of Kubernetes' own merge. *Removals*: what an applier owned counts with the named fields above it, and so does
 what anybody owns afterwards; what only the first has goes with all that stands below. So an owner holds the named fields above what
 it owns, but no item and no entry of a map. What is owned as empty is not held where an empty list stands in it, which does not
-count for a server: it goes with all that nobody owns in it. *Order*: the two lists are merged from their heads, led by the items that both have.
+count for a server: it goes with all that nobody owns in it. *Order*: the two lists are merged from their heads, led by the items
+that both have.
 """
 import collections
 

@@ -9,10 +9,13 @@ from ssabench_people.servers import merged_order, removals, with_fields_above
 
 TEXT = {"type": "string"}
 ITEM = {"type": "object", "properties": {"name": TEXT, "image": TEXT, "probe": {"type": "object", "properties": {"path": TEXT, "period": TEXT}}}}
+ITEMS = {"type": "array", "x-kubernetes-list-type": "map", "x-kubernetes-list-map-keys": ["name"], "items": ITEM}
 SPEC = {
     "type": "object",
     "properties": {
-        "items": {"type": "array", "x-kubernetes-list-type": "map", "x-kubernetes-list-map-keys": ["name"], "items": ITEM},
+        "items": ITEMS,
+        "args": {"type": "array", "x-kubernetes-list-type": "atomic", "items": TEXT},
+        "inner": {"type": "object", "properties": {"items": ITEMS, "path": TEXT}},
         "limits": {"type": "object", "additionalProperties": TEXT},
         "groups": {"type": "object", "additionalProperties": ITEM},
         "probe": {"type": "object", "properties": {"path": TEXT, "period": TEXT}},
@@ -93,6 +96,9 @@ class Removals(unittest.TestCase):
             ({"items": [{"name": "a"}], "limits": {"cpu": "1"}}, []),
             ({"limits": {"cpu": "1"}}, []),
             ({"limits": {}}, []),
+            ({"args": [], "limits": {"cpu": "1"}}, []),
+            ({"inner": {"items": []}, "limits": {"cpu": "1"}}, [".spec"]),
+            ({"inner": {"items": [], "path": "/"}, "limits": {"cpu": "1"}}, []),
         ):
             with self.subTest(beside=beside):
                 self.assertEqual(self.told(shown(given_up | beside, team=team), shown(beside, team={})), wanted)
