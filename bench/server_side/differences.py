@@ -64,7 +64,7 @@ def object_reason(server, bench, before):
 
 
 def ways_values(value, path=()):
-    """The leaves of a value by their paths: fields by name, items by their key."""
+    """The leaves of a value by their paths: fields by name, items by their key; of lists without keys the items, in no order."""
     if isinstance(value, dict) and value:
         return {below: leaf for name, part in value.items() for below, leaf in ways_values(part, (*path, f"f:{name}")).items()}
     if isinstance(value, list) and value and all(isinstance(item, dict) and ("name" in item or "port" in item) for item in value):
@@ -73,11 +73,13 @@ def ways_values(value, path=()):
             key = "name" if "name" in item else "port"
             found |= ways_values(item, (*path, "k:" + json.dumps({key: item[key]}, separators=(",", ":"))))
         return found
-    return {path: text(value)}
+    return {path: text(sorted_lists(value))}
 
 
 def entries(value):
-    return {(entry["manager"], entry["operation"]): entry for entry in value["metadata"].get("managedFields") or []}
+    """The entries of an object by their manager, operation and part."""
+    found = value["metadata"].get("managedFields") or []
+    return {(entry["manager"], entry["operation"], entry.get("subresource", "")): entry for entry in found}
 
 
 def owned(entry):

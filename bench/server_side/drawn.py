@@ -31,6 +31,28 @@ ROUTE = {
     "limits": {"cpu": [1, 2], "memory": [1, 2]},
     "rules": [[{"from": "a"}], [{"from": "b"}, {"from": "a"}]],
 }
+STATUS = {
+    "ready": [True, False],
+    "seen": [1, 2, 3],
+    "load": [0.5, 1],
+    "conditions": ("type", ["Ready", "Bound", "Up"], {"status": ["True", "False"], "reason": ["A", "B"]}),
+    "ports": {"set": [80, "80", "http"]},
+}
+STATUS_SCHEMA = {
+    "type": "object",
+    "properties": {
+        "ready": {"type": "boolean"},
+        "seen": {"type": "integer"},
+        "load": {"type": "number"},
+        "conditions": {
+            "type": "array",
+            "x-kubernetes-list-type": "map",
+            "x-kubernetes-list-map-keys": ["type"],
+            "items": {"type": "object", "properties": {name: {"type": "string"} for name in ("type", "status", "reason")}},
+        },
+        "ports": {"type": "array", "x-kubernetes-list-type": "set", "items": {"x-kubernetes-int-or-string": True}},
+    },
+}
 ROUTE_SCHEMA = {
     "type": "object",
     "properties": {

@@ -46,6 +46,15 @@ def told(wanted, live, conflicts):
     return {"spec": live["spec"]}
 
 
+def both(server, workbench, command, live):
+    """What a command makes of a server's object, and of the bench's own: the object, or the conflicts."""
+    value = made(command)
+    plain = {**value, "metadata": {"name": "web"}} if command["do"] == "update" else value
+    if command["do"] == "update":
+        value["metadata"] = live["metadata"]
+    return server.asked(command["do"], live, value, command["manager"]), workbench.asked(command["do"], plain, command["manager"])
+
+
 def main():
     with open(os.path.join(os.path.dirname(os.path.realpath(__file__)), "examples.yaml"), encoding="utf-8") as file:
         examples = yaml.safe_load(file)
@@ -55,14 +64,12 @@ def main():
     with tempfile.TemporaryDirectory(prefix="ssabench-examples-") as folder:
         workbench = Workbench(folder, document)
         for example in examples:
-            command, live = example["command"], met(server, example)
-            value = made(command)
-            if command["do"] == "update":
-                value["metadata"] = live["metadata"]
-            theirs = told(example["server"], *server.asked(command["do"], live, value, command["manager"]))
+            live = met(server, example)
             workbench.open(live)
-            plain = {**value, "metadata": {"name": "web"}} if command["do"] == "update" else value
-            ours = told(example["bench"], *workbench.asked(command["do"], plain, command["manager"]))
+            for command in [*example.get("both", []), example["command"]]:
+                its, ours = both(server, workbench, command, live)
+                live = its[0]
+            theirs, ours = (told(example[side], *found) for side, found in (("server", its), ("bench", ours)))
             right = text(theirs) == text(example["server"]) and text(ours) == text(example["bench"])
             well += right
             if not right:

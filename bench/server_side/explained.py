@@ -5,7 +5,8 @@
 
 SERVER is the program that `build` makes; SSABENCH names the proved program. Each story begins with an object that the server made,
 and goes on by what the server answers. Before each apply that the server carries out, `explain` says what is removed beside what
-the bench removes, and which lists have another order: with these the bench's object has to be the server's.
+the bench removes, and which lists have another order: with these the bench's object has to be the server's. KINDS=KIND|KIND.. names
+the kinds that are tried.
 """
 import copy
 import json
@@ -13,9 +14,8 @@ import os
 import sys
 import tempfile
 
-from compare import Stories, apps_document, route_schema
+from compare import Stories, kinds
 from differences import body, text, without_empty
-from drawn import DEPLOYMENT, ROUTE
 from sides import Server, Workbench
 
 BEGUN = (0, 1, 2, 3, 4, 5, 6)  # of the sorts of stories those in which verdicts are the same
@@ -59,29 +59,26 @@ def _order(value, path, items):
 
 def main():
     program, number, seed = sys.argv[1], int((sys.argv[2:] or ["100"])[0]), int((sys.argv[3:] or ["1"])[0])
-    document = apps_document()
-    definitions = document["components"]["schemas"]
-    crd, route_definitions = route_schema(definitions)
-    for kind, api_version, shape, schema, schemas in (
-        ("Deployment", "apps/v1", DEPLOYMENT, document, definitions),
-        ("Route", "example.com/v1", ROUTE, crd, route_definitions),
-    ):
+    for label, api_version, kind, shape, status, schema, schemas in kinds():
+        if label not in (os.environ.get("KINDS") or label).split("|"):
+            continue
         group, _, version = api_version.rpartition("/")
-        server = Server(program, schemas, group, version, kind)
+        server = Server(program, schemas, group, version, kind, status is not None)
         with tempfile.TemporaryDirectory(prefix="ssabench-explained-") as folder:
-            stories = Explained(server, Explaining(folder, schema), shape, api_version, kind, seed)
+            stories = Explained(server, Explaining(folder, schema), shape, api_version, kind, seed, status)
             for one in range(number):
                 stories.told(one)
         server.close()
-        print(kind, dict(sorted(stories.counts.items())))
+        print(label, dict(sorted(stories.counts.items())))
 
 
 class Explaining(Workbench):
     """A bench that is asked what an apply would do."""
 
-    def explained(self, value, manager):
+    def explained(self, value, manager, part):
         self._write(value)
         words = ["explain", "-f", self.file, "--field-manager", manager, "--force-conflicts", "-o", "json", self.bench]
+        words += ["--subresource", part] if part else []
         status, out, told = self._run(*words)
         if status:
             raise ValueError(f"the workbench doesn't explain this: {out}{told}")
@@ -94,16 +91,16 @@ class Explained(Stories):
     def told(self, number):
         live = self.begun(BEGUN[number % len(BEGUN)])
         for _ in range(6):
-            do, value, manager, force = self.command(live, False)
-            theirs, _ = self.server.asked(do, live, value, manager, force)
+            do, value, manager, force, part = self.drawn_command(live, False)
+            theirs, _ = self.server.asked(do, live, value, manager, force, part)
             if theirs is None:
                 continue
             if do == "apply":
-                self.compared(live, value, manager, theirs)
+                self.compared(live, value, manager, theirs, part)
             live = theirs
 
-    def compared(self, live, value, manager, theirs):
-        if "null" in text(live.get("spec", {})):  # the field manager alone leaves nulls, a server doesn't
+    def compared(self, live, value, manager, theirs, part):
+        if "null" in text([live[name] for name in ("spec", "status") if name in live]):  # the field manager alone leaves nulls, a server doesn't
             self.counts["left out: a null"] += 1
             return
         try:
@@ -111,8 +108,8 @@ class Explained(Stories):
         except ValueError:  # an entry that owns what such a null was, and no longer is there
             self.counts["left out: owns what is not there"] += 1
             return
-        told = self.workbench.explained(value, manager)
-        ours, _ = self.workbench.asked("apply", value, manager, True)
+        told = self.workbench.explained(value, manager, part)
+        ours, _ = self.workbench.asked("apply", value, manager, True, part)
         wanted, plain, explained = (text(without_empty(body(one))) for one in (theirs, ours, with_told(ours, told)))
         self.counts["applies"] += 1
         answered = "answered as here" if wanted == plain else "answered otherwise"

@@ -14,17 +14,17 @@ CONFLICT = re.compile(r'conflict with "([^"]*)"')
 class Server:
     """Answers a command on a live object."""
 
-    def __init__(self, program, schemas, group, version, kind):
+    def __init__(self, program, schemas, group, version, kind, status=False):
         self.process = subprocess.Popen([program], stdin=subprocess.PIPE, stdout=subprocess.PIPE, text=True)
-        self._send({"schemas": schemas, "group": group, "version": version, "kind": kind})
+        self._send({"schemas": schemas, "group": group, "version": version, "kind": kind, "status": status})
 
     def _send(self, value):
         self.process.stdin.write(json.dumps(value) + "\n")
         self.process.stdin.flush()
 
-    def asked(self, do, live, value, manager, force=False):
+    def asked(self, do, live, value, manager, force=False, part=""):
         """The object that comes of it, and the conflicts as pairs of a manager's name and a way; one of the two is None."""
-        self._send({"do": do, "live": live, "object": value, "manager": manager, "force": force})
+        self._send({"do": do, "live": live, "object": value, "manager": manager, "force": force, "subresource": part})
         reply = json.loads(self.process.stdout.readline())
         if "error" in reply:
             raise ValueError(f"the server refuses: {reply['error']}")
@@ -64,13 +64,14 @@ class Workbench:
         if status:
             raise ValueError(f"the workbench doesn't open this: {told}")
 
-    def asked(self, do, value, manager, force=False):
+    def asked(self, do, value, manager, force=False, part=""):
         """As the server's, on the bench's own object."""
         self.count += 1
         self._write(value)
         moment = f"2024-05-01T10:{self.count // 60 % 60:02}:{self.count % 60:02}Z"
         words = [do, "-f", self.file, "--field-manager", manager, "--at", moment, "-o", "json", self.bench]
-        status, out, told = self._run(*words, *(["--force-conflicts"] if force and do == "apply" else []))
+        words += ["--force-conflicts"] if force and do == "apply" else []
+        status, out, told = self._run(*words, *(["--subresource", part] if part else []))
         if status == 1 and out and json.loads(out)["fault"] == 50:
             conflicts = json.loads(out)["conflicts"]
             return None, {(one["manager"], way(path)) for one in conflicts for path in one["fields"]}

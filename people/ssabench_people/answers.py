@@ -2,11 +2,10 @@
 import json
 
 from .along import place_at, value_at
-from .documents import compact, to_yaml
-from .elements import told_paths, way_of
+from .documents import compact, shown_name, to_yaml
+from .elements import bench_way, told_paths, way_of, without_stand_ins
 from .migration import client_side_appliers
 from .report import line
-from .terminal import say
 from .turning import PART_BY_PART
 
 MOST_LINES = 20
@@ -63,14 +62,6 @@ def who(owner):
     return f"{owner['manager']} ({owner['operation']}{part})"
 
 
-def print_change(root, name, done, reply):
-    """What a command changed, a line a field."""
-    say(f"{name} {done}")
-    for part in ("added", "modified", "removed"):
-        for _, way in told_paths(root, reply[part]):
-            say("  ", (f"{part:<8} ", part), way)
-
-
 def change_parts(change):
     """A change as the parts of a line."""
     what = change["what"]
@@ -109,13 +100,28 @@ def said(reply):
 
 
 def tell_refusal(root, name, reply, lines):
-    """Where and why the proved program refused a file."""
-    if reply is None or "path" not in reply:
-        for told in lines or ([said(reply)] if reply else []):
-            line(f"{name}: {told}" if not lines else told)
+    """Where and why the proved program refused a file, in its own words, where it has some."""
+    source = shown_name(name)
+    if reply is not None and "path" in reply:
+        line(f"{source}: {_way_and_words(root, source, reply, lines)}")
         return
+    for told in lines:
+        at = f"{source}: at "
+        is_bare = reply is not None and reply["fault"] in SAID and told.startswith(at)
+        line(without_stand_ins(f"{source}: {told.removeprefix(at)}: {said(reply)}" if is_bare else told))
+    if reply is not None and not lines:
+        line(f"{source}: {said(reply)}")
+
+
+def _way_and_words(root, source, reply, lines):
+    """The way to what was refused, and why, of a refusal with a path. The program's line begins with that path as the bench has it,
+    and may lead on from its end."""
     way = next((way for _, way in told_paths(root, [reply["path"]])), "")
-    line(f"{name}: {way or 'the whole'}: {said(reply)}")
+    begins = f"{source}: {bench_way(reply['path'])}"
+    found = next((told.removeprefix(begins) for told in lines if told.startswith(begins)), None)
+    if found is None:
+        return f"{way or 'the object'}: {said(reply)}"
+    return way + without_stand_ins(found) if way else without_stand_ins(found).removeprefix(": ")
 
 
 def shown_value(value):

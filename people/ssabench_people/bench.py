@@ -6,6 +6,7 @@ metadata, and the digest of the bench's schema, by which the two are one's.
 import contextlib
 import copy
 import hashlib
+import itertools
 import json
 import os
 import shutil
@@ -21,7 +22,8 @@ FORMAT = 2
 
 
 def places_name(name):
-    return f"{name}.places.json"
+    """The file of places beside a bench's file, or beside the one that a link leads to."""
+    return f"{os.path.realpath(name) if os.path.islink(name) else name}.places.json"
 
 
 class Bench:
@@ -38,10 +40,12 @@ class Bench:
             self.root = places.from_json(told["places"])
             schema = told["schema"]
         except OSError as fault:
-            raise Refusal(f"cannot read {places_name(name)}: a bench is made by the word open", 3) from fault
+            there = f"{places_name(name)} is missing, which the word open makes" if os.path.exists(name) else "the word open makes a bench"
+            raise Refusal(f"cannot read {name}: {there}", 3) from fault
         except (ValueError, KeyError, TypeError) as fault:
             raise Refusal(f"{places_name(name)}: not what the word open writes", 3) from fault
         if _schema_of(name) not in (None, schema):
+            engine.asked("show", name)  # which ends here where the file is none of a bench
             raise Refusal(f"{places_name(name)} is another bench's: {name} has another schema", 3)
 
     def live(self):
@@ -58,15 +62,23 @@ class Bench:
     def reordered(self):
         """For each command of the history, from the first to the last, the paths of the lists whose items it put in another order,
         as the records in the bench's file tell them."""
+        past, found = self._orders()
+        return found[:past][::-1] + found[past:]
+
+    def last_reordered(self):
+        """The same of the command that was given last."""
+        return self._orders(1)[1][0]
+
+    def _orders(self, most=None):
+        """How many commands can be undone, and of each record, or so many, the paths of the lists that it put in another order. The
+        records of what can be undone come first, the latest before the others."""
         try:
             with open(self.name, encoding="utf-8") as file:
                 past = json.loads(file.readline())["past"]
-                file.readline()
-                file.readline()
-                found = [[path for path, _ in json.loads(line)["record"]["order"]] for line in file]
+                records = itertools.islice(file, 2, None if most is None else 2 + most)
+                return past, [[path for path, _ in json.loads(line)["record"]["order"]] for line in records]
         except (OSError, ValueError, KeyError, TypeError) as fault:
             raise Refusal(f"{self.name}: not a bench's file as this program reads it", 3) from fault
-        return found[:past][::-1] + found[past:]
 
     @contextlib.contextmanager
     def copied(self):
@@ -115,7 +127,7 @@ def _digest(text):
 def make(name, root, value, kept, source="the object"):
     """Makes a bench of an object of the bench, which came from `source`. Gives the status, the reply and the lines of the proved
     program; neither file is touched where it refuses."""
-    folder = os.path.dirname(os.path.abspath(name))
+    folder = os.path.dirname(os.path.realpath(name))
     schema = places.engine_root(root)
     told = {"format": FORMAT, "kept": kept, "places": places.to_json(root)}
     told["schema"] = _digest(compact(schema).encode("utf-8"))
@@ -124,14 +136,13 @@ def make(name, root, value, kept, source="the object"):
     except OSError as fault:
         raise Refusal(f"cannot write {name}", 3) from fault
     try:
-        paths = {part: os.path.join(made, part) for part in ("schema.json", "object.json", "bench", "places.json")}
+        paths = {part: os.path.join(made, part) for part in ("schema.json", "object.json", "places.json")}
         for part, content in (("schema.json", schema), ("object.json", value), ("places.json", told)):
             with open(paths[part], "w", encoding="utf-8") as file:
                 json.dump(content, file, ensure_ascii=False, sort_keys=True)
-        status, reply, lines = engine.called("init", paths["schema.json"], paths["object.json"], paths["bench"])
+        status, reply, lines = engine.called("init", paths["schema.json"], paths["object.json"], name)
         if status == 0:
             os.replace(paths["places.json"], places_name(name))
-            os.replace(paths["bench"], name)
         named = [line.replace(paths["object.json"], source).replace(paths["schema.json"], "the schema") for line in lines]
         return status, reply, named
     except OSError as fault:

@@ -92,6 +92,10 @@ class Changes:
         """Who owns a place or something below it afterwards."""
         return self.others(path) or [owner for owner, places in self._above_after if path in places]
 
+    def all(self):
+        """All that the command changed: values, orders and owners."""
+        return self.values() + self.orders() + self.ownership()
+
     def values(self, parts=("added", "modified", "removed")):
         """What was added, modified and removed; of what came or went as a whole the topmost place."""
         return [self.valued(part, path, way) for part in parts for path, way in topmost(self.compared[part])]

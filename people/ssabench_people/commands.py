@@ -2,15 +2,28 @@
 import contextlib
 import datetime
 import difflib
+from dataclasses import dataclass
 
 from . import engine
-from .answers import object_name, print_change, print_value, tell_conflicts, tell_refusal, turned_reply
+from .answers import change_parts, object_name, print_value, shown_change, tell_conflicts, tell_refusal, turned_reply
 from .bench import Bench, with_file
-from .documents import read_documents, to_yaml
-from .objects import as_taken, identity, to_bench_object
+from .changes import Changes, acting
+from .documents import read_documents, shown_name, to_yaml
+from .history import label_line
+from .objects import as_taken, identity, tell_beside_status, to_bench_object
 from .refusal import Refusal
 from .report import Report, counted, line
 from .terminal import say
+
+
+@dataclass
+class Manifest:
+    """A manifest: the name of its file, what a word takes of it, the same as the bench has it, and the live object that it meets."""
+
+    source: str
+    value: dict
+    turned: dict
+    live: dict
 
 
 def now():
@@ -18,90 +31,108 @@ def now():
 
 
 def manifests(args, live, report):
-    """The manifests of a file that are of the bench's object."""
+    """The manifests of the files that are of the bench's object, each with the name of its file."""
     own = identity(live, args.bench)
     fitting = []
-    for value in read_documents(args.file):
-        named = identity(value, args.file)
+    for source, value in ((source, value) for source in args.files for value in read_documents(source)):
+        named = identity(value, source)
         if named[:3] == own[:3] and named[3] in (None, own[3]):
-            fitting.append(value)
+            fitting.append((source, value))
         else:
-            line(f"{args.file}: {value['kind']} {named[2]} is not the bench's object, left out")
+            line(f"{shown_name(source)}: {value['kind']} {named[2]} is not the bench's object, left out")
     if not fitting:
-        raise Refusal(f"{args.file}: nothing for {own[1]} {own[2]}{' in ' + own[3] if own[3] else ''} at {own[0]}")
-    for value in fitting:
+        sources = ", ".join(shown_name(source) for source in args.files)
+        raise Refusal(f"{sources}: nothing for {own[1]} {own[2]}{' in ' + own[3] if own[3] else ''} at {own[0]}")
+    for source, value in fitting:
         if own[3] and not value["metadata"].get("namespace"):
             report.add(".metadata.namespace", f"the bench's, {own[3]}, filled in", "filled")
             value = {**value, "metadata": {**value["metadata"], "namespace": own[3]}}
-        yield value
+        yield source, value
 
 
 def turned_manifests(args, bench):
-    """Each manifest of a file as a word takes it and as the bench does, with the live object that it meets. What is not as it was
-    is told before each."""
+    """Each manifest of the files. What is not as it was is told before each."""
     live, report = bench.live(), Report()
     takes_status = args.subresource == "status" or bench.root.plain_status
-    for given in list(manifests(args, live, report)):
-        value = as_taken(given, live, args.does == "update", takes_status, report)
+    for number, (source, given) in enumerate(list(manifests(args, live, report))):
+        if number > 0:
+            live, report = bench.live(), Report()
+        replaces = args.does == "update"
+        value = as_taken(given, live, replaces, takes_status, report)
+        if args.subresource:
+            tell_beside_status(value, live, replaces, report)
         turned, _ = to_bench_object(bench.root, value, report)
         if value["metadata"].get("managedFields") is not None:
             turned["metadata"]["managedFields"] = value["metadata"]["managedFields"]
         report.tell(without=("text", "whole"))
-        yield value, turned, live
-        live, report = bench.live(), Report()
+        yield Manifest(source, value, turned, live)
 
 
-def asked_with(args, bench, turned, force):
+def asked_with(args, bench, manifest, force):
     """What the proved program answers to a word with a manifest: the status, the reply and its lines."""
     options = ["--at", args.at or now(), "--field-manager", args.field_manager]
     options += ["--subresource", args.subresource] if args.subresource else []
     options += ["--force-conflicts"] if force else []
-    return with_file(turned, args.file, lambda name: engine.called(args.does, bench.name, name, *options))
+    source = shown_name(manifest.source)
+    return with_file(manifest.turned, source, lambda name: engine.called(args.does, bench.name, name, *options))
+
+
+def changed_with(args, bench, manifest, reply):
+    """What a manifest changed on the bench."""
+    part = {"subresource": args.subresource} if args.subresource else {}
+    actor = acting({"do": args.does, "manager": args.field_manager} | part)
+    return Changes(bench.root, manifest.live, bench.live(), actor, reply, bench.last_reordered())
 
 
 def carried_out(args, bench, after):
-    """Does a word with each manifest of its file, up to the first that is refused. Gives that one's status, else 0; `after` is
+    """Does a word with each manifest of its files, up to the first that is refused. Gives that one's status, else 0; `after` is
     called with each manifest and its reply."""
-    for value, turned, live in turned_manifests(args, bench):
-        status, reply, lines = asked_with(args, bench, turned, args.does == "apply" and args.force_conflicts)
-        if args.output in ("json", "yaml") and reply is not None:
-            print_value(turned_reply(bench.root, reply), args.output)
+    for manifest in turned_manifests(args, bench):
+        status, reply, lines = asked_with(args, bench, manifest, args.does == "apply" and args.force_conflicts)
         if status != 0:
-            tell_refused(bench.root, args, reply, lines, live, value)
+            if args.output in ("json", "yaml") and reply is not None:
+                print_value(turned_reply(bench.root, reply), args.output)
+            tell_refused(bench.root, args, reply, lines, manifest)
             return status
-        after(value, reply)
+        after(manifest, reply)
     return 0
 
 
-def tell_refused(root, args, reply, lines, live, value):
+def tell_refused(root, args, reply, lines, manifest):
     if reply is not None and reply["fault"] == 50:
-        tell_conflicts(root, reply["conflicts"], live, value, args.field_manager)
+        tell_conflicts(root, reply["conflicts"], manifest.live, manifest.value, args.field_manager)
     else:
-        tell_refusal(root, args.file, reply, lines)
+        tell_refusal(root, manifest.source, reply, lines)
 
 
 def _target(args):
     """The bench that a word is done on: a copy, where nothing is to change."""
     bench = Bench(args.bench)
-    return bench.copied() if args.dry_run else contextlib.nullcontext(bench)
+    return bench.copied() if args.dry_run == "server" else contextlib.nullcontext(bench)
 
 
 def do_command(args):
     """Apply or update."""
     with _target(args) as bench:
 
-        def after(value, reply):
+        def after(manifest, reply):
+            name = object_name(manifest.value)
             if args.output == "name":
-                print(object_name(value))
-            elif args.output is None:
-                done = "serverside-applied" if args.does == "apply" else "replaced"
-                print_change(bench.root, object_name(value), done + dry(args), reply)
+                print(name)
+                return
+            changes = changed_with(args, bench, manifest, reply).all()
+            if args.output:
+                print_value(turned_reply(bench.root, reply) | {"changes": [shown_change(one) for one in changes]}, args.output)
+                return
+            say(f"{name} {'serverside-applied' if args.does == 'apply' else 'replaced'}{dry(args)}")
+            for change in changes:
+                say("  ", *change_parts(change))
 
         return carried_out(args, bench, after)
 
 
 def dry(args):
-    return " (server dry run)" if args.dry_run else ""
+    return " (server dry run)" if args.dry_run == "server" else ""
 
 
 def do_diff(args):
@@ -109,7 +140,7 @@ def do_diff(args):
     form, args.output = args.output, None
     with Bench(args.bench).copied() as bench:
         before = bench.live()
-        status = carried_out(args, bench, lambda value, reply: None)
+        status = carried_out(args, bench, lambda manifest, reply: None)
         if status != 0:
             return max(status, 2)
         shown = [_lines(value, args.show_managed_fields) for value in (before, bench.live())]
@@ -127,18 +158,31 @@ def _lines(value, managed):
     return to_yaml({**value, "metadata": metadata}).splitlines()
 
 
-def do_plain(args):
-    """Strip, undo and redo."""
+def do_strip(args):
     with _target(args) as bench:
-        status, reply, lines = engine.called(args.does, bench.name)
+        status, reply, lines = engine.called("strip", bench.name)
         if args.output and reply is not None:
             print_value(turned_reply(bench.root, reply), args.output)
         if status != 0:
             tell_refusal(bench.root, args.bench, reply, lines)
-        elif args.output:
-            pass
-        elif args.does == "strip":
+        elif not args.output:
             print(f"stripped: nobody owns anything{dry(args)}")
-        else:
-            print(f"{args.does}ne: {counted(reply['past'], 'command')} can be undone, {reply['future']} redone{dry(args)}")
         return status
+
+
+def do_turn(args):
+    """Undo and redo, with the command that was undone or redone."""
+    bench = Bench(args.bench)
+    status, reply, lines = engine.called(args.does, bench.name)
+    if status != 0:
+        if args.output and reply is not None:
+            print_value(reply, args.output)
+        tell_refusal(bench.root, args.bench, reply, lines)
+        return status
+    log = engine.asked("log", bench.name)
+    label = log["future"][0] if args.does == "undo" else log["past"][-1]
+    if args.output:
+        print_value(reply | {"command": label}, args.output)
+    else:
+        print(f"{args.does}ne: {label_line(label)}; {counted(reply['past'], 'command')} can be undone, {reply['future']} redone")
+    return 0

@@ -125,6 +125,11 @@ def parse_json(text):
     return tidy(_DECODER.decode(text))
 
 
+def shown_name(name):
+    """A file's name in a line for people."""
+    return "standard input" if name == "-" else name
+
+
 def parse_documents(text, name):
     """The documents of a text in JSON or YAML, without empty ones; a `List` gives its items."""
     try:
@@ -135,7 +140,7 @@ def parse_documents(text, name):
         except (yaml.YAMLError, ValueError, RecursionError) as fault:
             mark = getattr(fault, "problem_mark", None)
             where = f" at line {mark.line + 1}, column {mark.column + 1}" if mark else ""
-            raise Refusal(f"{name}: neither JSON nor YAML{where}") from fault
+            raise Refusal(f"{shown_name(name)}: neither JSON nor YAML{where}") from fault
     return [item for document in found if document is not None for item in _items(document)]
 
 
@@ -155,7 +160,7 @@ def read_text(name):
     except OSError as fault:
         raise Refusal(f"cannot read {name}", 3) from fault
     except UnicodeDecodeError as fault:
-        raise Refusal(f"{name}: not UTF-8") from fault
+        raise Refusal(f"{shown_name(name)}: not UTF-8") from fault
 
 
 def read_documents(name):

@@ -118,6 +118,30 @@ def way_of_name(name):
     return f".{name}" if PLAIN_NAME.match(name) else f"[{compact(name)}]"
 
 
+BENCH_PLAIN = re.compile(r"^[A-Za-z0-9/_-]+$")
+
+
+def bench_way(path):
+    """The way of a path of the bench as the proved program writes it in its lines for people."""
+    return "".join(_bench_step(*read(text)) for text in path) or "the root"
+
+
+def _bench_step(letter, said):
+    if letter == "f":
+        return f".{said}" if BENCH_PLAIN.match(said) else f"[{compact(said)}]"
+    if letter == "k":
+        return f"[{','.join(f'{name}={compact(value)}' for name, value in sorted(said.items()))}]"
+    return f"[={compact(said)}]"
+
+
+def without_stand_ins(text):
+    """A line of the proved program without the names that stand for something else on a bench."""
+    text = text.replace(f'; "{OTHERS}"?', "").replace(f'["{OTHERS}"]', "")
+    for name in (METADATA, STATUS):
+        text = text.replace(f'["{name}"]', f".{name[1:-1]}").replace(f'; "{name}"?', f"; {name[1:-1]}?")
+    return text
+
+
 def told_paths(root, paths):
     """Paths of the bench as pairs: the list of texts as a server writes them, and the way as people read it; each once."""
     told = {}

@@ -6,15 +6,18 @@ import shutil
 import subprocess
 
 from .refusal import Refusal
+from .report import line
 
 HERE = os.path.dirname(os.path.dirname(os.path.realpath(__file__)))
+LAUNCHER = os.path.join(os.path.dirname(HERE), "ssabench")  # the repository's own, which may prove and build the program first
+PATIENCE = 10  # seconds until it is told that it does
 
 
 @functools.cache
 def program():
     """The path of the proved program: as SSABENCH says, or beside this one, or in the folder above, or on the path."""
     named = os.environ.get("SSABENCH")
-    beside = [os.path.join(HERE, "ssabench"), os.path.join(os.path.dirname(HERE), "ssabench")]
+    beside = [os.path.join(HERE, "ssabench"), LAUNCHER]
     found = next((path for path in beside if os.path.isfile(path) and os.access(path, os.X_OK)), None)
     path = named or found or shutil.which("ssabench")
     if path is None:
@@ -22,15 +25,44 @@ def program():
     return path
 
 
-def called(*words):
-    """A call's status, its reply (None where it printed none) and its lines for people, without the program's name."""
+def _run(*words, given=None):
+    """A call's status, and what it prints on standard output and on standard error."""
+    how = {"stdout": subprocess.PIPE, "stderr": subprocess.PIPE, "text": True, "encoding": "utf-8"}
     try:
-        ran = subprocess.run([program(), *words], capture_output=True, text=True, encoding="utf-8", check=False)
+        with subprocess.Popen([program(), *words], stdin=subprocess.DEVNULL if given is None else subprocess.PIPE, **how) as process:
+            try:
+                out, err = process.communicate(given, timeout=PATIENCE if program() == LAUNCHER else None)
+            except subprocess.TimeoutExpired:
+                told = "where no program stands that was built of its sources, it is proved and built first, in an hour or more"
+                line(f"{LAUNCHER} is at work: {told}; SSABENCH can name one")
+                out, err = process.communicate()
+            return process.returncode, out, err
     except OSError as fault:
         raise Refusal(f"cannot run {program()}: {fault.strerror}", 3) from fault
-    lines = [line.removeprefix("ssabench: ") for line in ran.stderr.splitlines()]
-    reply = json.loads(ran.stdout) if ran.stdout.strip().startswith("{") else None
-    return ran.returncode, reply, lines
+    except UnicodeDecodeError as fault:
+        raise Refusal(f"{program()} printed no UTF-8", 3) from fault
+
+
+def _read(text):
+    try:
+        return json.loads(text)
+    except ValueError as fault:
+        raise Refusal(f"{program()} printed a reply that is none", 3) from fault
+
+
+def version():
+    """The proved program's name and version, and where it stands."""
+    status, out, err = _run("--version")
+    if status != 0:
+        raise Refusal(err.strip() or f"{program()} ended with status {status}", 3)
+    return f"{out.strip()}, {program()}"
+
+
+def called(*words):
+    """A call's status, its reply (None where it printed none) and its lines for people, without the program's name."""
+    status, out, err = _run(*words)
+    reply = _read(out) if out.strip().startswith("{") else None
+    return status, reply, [told.removeprefix("ssabench: ") for told in err.splitlines()]
 
 
 def asked(*words):
@@ -45,8 +77,8 @@ def asked(*words):
 def in_session(bench, commands):
     """The replies to the commands of a session on a bench, one each; a refusal is among them as it is."""
     lines = "".join(json.dumps(command, ensure_ascii=False) + "\n" for command in commands)
-    ran = subprocess.run([program(), "session", bench], input=lines, capture_output=True, text=True, encoding="utf-8", check=False)
-    replies = [json.loads(line) for line in ran.stdout.splitlines()]
-    if ran.returncode != 0 or len(replies) != len(commands):
-        raise Refusal(ran.stderr.strip() or f"ssabench ended with status {ran.returncode}", ran.returncode or 3)
+    status, out, err = _run("session", bench, given=lines)
+    replies = [_read(reply) for reply in out.splitlines()]
+    if status != 0 or len(replies) != len(commands):
+        raise Refusal(err.strip() or f"ssabench ended with status {status}", status or 3)
     return replies

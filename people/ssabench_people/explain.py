@@ -3,8 +3,8 @@ from . import engine, servers
 from .along import Finder
 from .answers import WAYS_OUT, change_parts, object_name, owner_part, print_value, shown_change, shown_value, tell_client_side, who
 from .bench import Bench
-from .changes import Changes, above, acting, topmost
-from .commands import asked_with, tell_refused, turned_manifests
+from .changes import above, topmost
+from .commands import asked_with, changed_with, tell_refused, turned_manifests
 from .elements import told_paths, way_of
 from .migration import migrated
 from .ownership import Turning
@@ -28,17 +28,17 @@ def do_explain(args):
 
 
 def _each(args):
-    """What each manifest of a file would do, with its status, up to the first that is refused."""
+    """What each manifest of the files would do, with its status, up to the first that is refused."""
     with _copy(args) as bench:
-        for value, turned, live in turned_manifests(args, bench):
-            found, status = _explained(args, bench, value, turned, live)
+        for manifest in turned_manifests(args, bench):
+            found, status = _explained(args, bench, manifest)
             yield found, status
             if status != 0:
                 return
 
 
-def explained_file(args):
-    """What each manifest of a file would do; those that are refused for something else than conflicts are told and left out."""
+def explained_files(args):
+    """What each manifest of the files would do; those that are refused for something else than conflicts are told and left out."""
     return [found for found, _ in _each(args) if found is not None]
 
 
@@ -55,21 +55,20 @@ def _copy(args):
     return bench.made_of(value)
 
 
-def _explained(args, bench, value, turned, live):
+def _explained(args, bench, manifest):
     """What an apply of a manifest does on the bench, a copy, by force where it is refused without. None where it is refused for
     something else, which is told."""
-    conflicts = []
-    status, reply, lines = asked_with(args, bench, turned, args.force_conflicts)
+    conflicts, value, live = [], manifest.value, manifest.live
+    status, reply, lines = asked_with(args, bench, manifest, args.force_conflicts)
     if reply is not None and reply.get("fault") == 50:
         conflicts = _conflicts(bench.root, reply["conflicts"], live, value)
-        engine_status, reply, lines = asked_with(args, bench, turned, True)
+        engine_status, reply, lines = asked_with(args, bench, manifest, True)
         status = engine_status or status
     if reply is None or "fault" in reply:
-        tell_refused(bench.root, args, reply, lines, live, value)
+        tell_refused(bench.root, args, reply, lines, manifest)
         return None, status
     part = {"subresource": args.subresource} if args.subresource else {}
-    label = {"do": "apply", "manager": args.field_manager} | part
-    changes = Changes(bench.root, live, bench.live(), acting(label), reply, bench.reordered()[-1])
+    changes = changed_with(args, bench, manifest, reply)
     found = {
         "object": object_name(value),
         "manager": args.field_manager,
@@ -121,6 +120,8 @@ def _otherwise(root, changes, value, live):
         keepers = changes.keepers(path)
         of = f"what {', '.join(who(owner) for owner in keepers)} owns there" if keepers else "what nobody owns there"
         found.append({"what": "removes", "path": list(path), "told": f"{way} goes too, with {of}"})
+    for path, way in servers.kept(root, changes):
+        found.append({"what": "keeps", "path": list(path), "told": f"{way} stays: a list that was applied as empty is nobody's there"})
     for path, way, items in servers.orders(changes, Finder(root, value), {path for path, _ in gone}):
         order = ", ".join(way_of((item,)) for item in items)
         found.append({"what": "orders", "path": list(path), "items": items, "told": f"{way} has the order {order}"})

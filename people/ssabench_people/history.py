@@ -20,18 +20,18 @@ class Step:
     def actor(self):
         return self.changes.actor
 
-    def all_changes(self):
-        """What the command changed, as `changes` has it."""
-        return self.changes.values() + self.changes.orders() + self.changes.ownership()
 
-
-def heading(step):
+def label_line(label):
     """A command in a line: when, what, by whom."""
-    label = step.label
     by = f" by {label['manager']}" if "manager" in label else ""
     by += f" through {label['subresource']}" if "subresource" in label else ""
     forced = ", by force" if label.get("force") else ""
-    return f"{label.get('at', '')} {label['do']}{by}{forced}{' (undone)' if step.undone else ''}".lstrip()
+    return f"{label.get('at', '')} {label['do']}{by}{forced}".lstrip()
+
+
+def heading(step):
+    """A step in a line."""
+    return label_line(step.label) + (" (undone)" if step.undone else "")
 
 
 def walked(bench, most=None):

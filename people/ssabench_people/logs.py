@@ -19,14 +19,16 @@ def do_log(args):
     if args.fights:
         return _log_of_fights(steps, args)
     if args.output:
-        told = [step.label | {"changes": [shown_change(one) for one in step.all_changes()]} for step in steps]
+        told = [step.label | {"changes": [shown_change(one) for one in step.changes.all()]} for step in steps]
         past, future = ([one for one, step in zip(told, steps) if step.undone == undone] for undone in (False, True))
         print_value({"done": "log", "past": past, "future": future}, args.output)
         return 0
     for step in steps:
         say((heading(step), "head"))
-        for change in step.all_changes():
+        for change in step.changes.all():
             say("  ", *change_parts(change))
+    if not steps:
+        say("no command yet")
     return 0
 
 

@@ -1,4 +1,6 @@
 """The words that look at a bench: the object, and who owns what. `logs` has the one that tells the history."""
+import difflib
+
 from . import engine
 from .along import Along
 from .answers import object_name, owner_part, print_value, shown_value, who
@@ -6,7 +8,8 @@ from .bench import Bench
 from .changes import sets
 from .documents import compact
 from .elements import way_of
-from .report import counted
+from .refusal import Refusal
+from .report import counted, line
 from .terminal import say, table
 from .ways import followed
 
@@ -23,6 +26,8 @@ def do_show(args):
 
 
 def do_owners(args):
+    if args.path is not None and (args.manager is not None or args.ways):
+        raise Refusal("--manager and --ways are of all fields: they take no PATH", 2)
     bench = Bench(args.bench)
     live = bench.live()
     if args.path is None:
@@ -78,6 +83,7 @@ def _all_owners(bench, live, args):
     """The object as a tree, or each field by its way: its value, and who owns it."""
     rows = list(_rows(Along(bench.root, live), -1, sets(live)))[1:]
     if args.manager is not None:
+        _tell_unknown(live, args.manager)
         rows = _of_manager(rows, args.manager)
     told = [row for row in rows if (row.is_leaf or row.owners) and (args.manager is None or row.is_of(args.manager))]
     if args.output:
@@ -87,6 +93,14 @@ def _all_owners(bench, live, args):
     else:
         table([("  " * row.depth + way_of(row.here.texts[-1:]).removeprefix("."), *_cells(row)) for row in rows])
     return 0
+
+
+def _tell_unknown(live, manager):
+    """Says of a manager that owns nothing that it does, and who else may be meant."""
+    names = list(dict.fromkeys(owner["manager"] for owner, _ in sets(live)))
+    if manager not in names:
+        near = difflib.get_close_matches(manager, names, n=1)
+        line(f"{manager} owns nothing{'; ' + near[0] + '?' if near else ''}")
 
 
 def _of_manager(rows, manager):

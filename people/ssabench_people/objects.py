@@ -1,5 +1,5 @@
 """Objects: what a server shows, or a manifest, as an object of the bench, and back."""
-from .documents import compact
+from .documents import compact, shown_name
 from .elements import named_keys
 from .places import BENCH_METADATA, METADATA, STATUS
 from .refusal import Refusal
@@ -18,13 +18,13 @@ SERVERS_OWN = (
 
 
 def identity(value, name):
-    """The four parts of an object's identity, the namespace being None where there is none."""
+    """The four parts of an object's identity, the namespace being None where there is none. `name` is its file's."""
     metadata = value.get("metadata") if isinstance(value, dict) else None
     if not isinstance(metadata, dict):
-        raise Refusal(f"{name}: no object with metadata")
+        raise Refusal(f"{shown_name(name)}: no object with metadata")
     parts = (value.get("apiVersion"), value.get("kind"), metadata.get("name"), metadata.get("namespace"))
     if not all(isinstance(part, str) and part for part in parts[:3]):
-        raise Refusal(f"{name}: an object has apiVersion, kind and metadata.name")
+        raise Refusal(f"{shown_name(name)}: an object has apiVersion, kind and metadata.name")
     return parts
 
 
@@ -70,8 +70,8 @@ def from_bench_object(root, value, kept):
 
 
 def as_taken(value, live, replaces, takes_status, report):
-    """The manifest without what a server takes from nobody: its own parts of metadata, and a status that is written elsewhere,
-    of which nothing is told where the object is replaced by one with the live status."""
+    """The manifest without what a server takes from nobody: its own parts of metadata, and a status that is written elsewhere.
+    Of what is written elsewhere nothing is told where the object is replaced by one that has it as it is live."""
     metadata = {}
     for name, part in value["metadata"].items():
         if name in SERVERS_OWN and part is not None:
@@ -85,6 +85,16 @@ def as_taken(value, live, replaces, takes_status, report):
     if status is not None and not (replaces and status == live.get("status")):
         report.add(".status", "written through the subresource, left out", "value")
     return given
+
+
+def tell_beside_status(value, live, replaces, report):
+    """Tells what of a manifest is not written through the subresource `status`, of which the proved program takes nothing."""
+    fields = {f".{name}": (part, live.get(name)) for name, part in value.items() if name not in ("apiVersion", "kind", "metadata", "status")}
+    more = {name: part for name, part in value["metadata"].items() if name not in (*IDENTITY, *SERVERS_OWN, "managedFields")}
+    fields |= {f".metadata.{name}": (part, live["metadata"].get(name)) for name, part in more.items()}
+    for way, (part, is_now) in fields.items():
+        if part is not None and not (replaces and part == is_now):
+            report.add(way, "not written through the subresource, left out", "value")
 
 
 def without_repeats(place, value, way, report):

@@ -3,7 +3,7 @@ import os
 
 from .answers import object_name, print_value, tell_refusal
 from .bench import make
-from .documents import read_documents
+from .documents import read_documents, shown_name
 from .migration import migrated
 from .objects import identity, tell_kept, to_bench_object, without_repeats
 from .ownership import Turning
@@ -17,7 +17,8 @@ def the_object(documents, name, kind):
     """The one object of a file, of the kind where one is named."""
     fitting = [value for value in documents if kind is None or isinstance(value, dict) and value.get("kind") == kind]
     if len(fitting) != 1:
-        raise Refusal(f"{name}: {len(fitting)} objects{' of the kind ' + kind if kind else ''}; a bench is made of one")
+        of_kind = f" of the kind {kind}" if kind else ""
+        raise Refusal(f"{shown_name(name)}: {len(fitting)} objects{of_kind}; a bench is made of one")
     identity(fitting[0], name)
     return fitting[0]
 
@@ -33,12 +34,13 @@ def wanted_schema(args, value, report):
 
 
 def do_open(args):
-    if os.path.exists(args.bench) and not args.force:
+    if os.path.lexists(args.bench) and not args.force:
         raise Refusal(f"{args.bench} is there; --force replaces it, with its history")
     report = Report(leaves_out=True)
+    source = shown_name(args.file)
     value = the_object(read_documents(args.file), args.file, args.kind)
     schemas = [document for name in args.schema for document in read_documents(name)]
-    schema = found(schemas, ", ".join(args.schema), wanted_schema(args, value, report))
+    schema = found(schemas, ", ".join(shown_name(name) for name in args.schema), wanted_schema(args, value, report))
     root = root_of(schema)
     if args.drop:
         value = without_repeats(root, value, "", report)
@@ -46,7 +48,7 @@ def do_open(args):
     tell_kept(kept, report)
     entries = value["metadata"].get("managedFields") or []
     if not isinstance(entries, list):
-        raise Refusal(f"{args.file}: .metadata.managedFields is no list")
+        raise Refusal(f"{source}: .metadata.managedFields is no list")
     if args.migrate:
         entries = migrated(entries, args.field_manager, report)
     turning = Turning(root, value, report, args.same_schema)
@@ -55,7 +57,7 @@ def do_open(args):
     if report.losses and not args.drop:
         line("no bench was made: --drop makes it without what is left out")
         return 1
-    status, reply, lines = make(args.bench, root, turned, kept, args.file)
+    status, reply, lines = make(args.bench, root, turned, kept, source)
     if status != 0:
         tell_refusal(root, args.file, reply, lines)
         return status

@@ -3,7 +3,9 @@
 The rules are those of Kubernetes' own merge. *Removals*: what an applier owned counts with the named fields above it, and so does
 what anybody owns afterwards; what only the first has goes with all that stands below. So an owner holds the named fields above what
 it owns, but no item and no entry of a map. What is owned as empty is not held where an empty list stands in it, which does not
-count for a server: it goes with all that nobody owns in it. *Order*: the two lists are merged from their heads, led by the items that both have.
+count for a server: it goes with all that nobody owns in it. A list that is merged item by item is no applier's: the bench, where who
+applied it as empty owns it, may remove what stays on a server. *Order*: the two lists are merged from their heads, led by the items
+that both have.
 """
 import collections
 
@@ -34,14 +36,39 @@ def _below(place, text):
     return place.child(name)[0], place.kind == "record" and name in place.fields
 
 
+def _is_merged_list(root, path):
+    place = root
+    for text in path:
+        place, _ = _below(place, text)
+    return place is not None and place.kind in ("set", "map")
+
+
+def _lists_of(root, owner, paths):
+    """The lists of a set that are no applier's on a server."""
+    if owner["operation"] != "Apply":
+        return set()
+    return {path for path in paths if path[-1:] and path[-1].startswith("f:") and _is_merged_list(root, path)}
+
+
+def _goes(root, changes):
+    """What goes on a server: what the applier owned last, and nobody holds afterwards."""
+    last = with_fields_above(root, changes.own_before - _lists_of(root, changes.actor, changes.own_before))
+    held = with_fields_above(root, {path for owner, paths in changes.sets_after for path in paths - _lists_of(root, owner, paths)})
+    lowest = (last & held) - above(held)
+    return last - (held - {path for path in lowest if _has_uncounted(changes.before.at(path))})
+
+
 def removals(root, changes):
     """What a server removes beside what the bench does: places with their ways, the topmost ones."""
-    last = with_fields_above(root, changes.own_before)
-    held = with_fields_above(root, {path for _, paths in changes.sets_after for path in paths})
-    lowest = (last & held) - above(held)
-    held -= {path for path in lowest if _has_uncounted(changes.before.at(path))}
-    gone = {path: way_of(path) for path in last - held if changes.after.value(path) is not None}
+    gone = {path: way_of(path) for path in _goes(root, changes) if changes.after.value(path) is not None}
     return topmost({path: way for path, way in gone.items() if path != ("f:metadata",)})
+
+
+def kept(root, changes):
+    """What a server keeps though the bench removes it, since the applier once applied the list as empty: the topmost places."""
+    gone, lists = _goes(root, changes), _lists_of(root, changes.actor, changes.own_before)
+    removed = {path: {path[:size] for size in range(1, len(path) + 1)} for path in changes.compared["removed"]}
+    return topmost({path: way_of(path) for path, beginnings in removed.items() if beginnings & lists and not beginnings & gone})
 
 
 def _has_uncounted(here):

@@ -1,6 +1,7 @@
 """The word that writes a page: the object with who owns what, its history, and what an apply would do."""
 import json
 import os
+import sys
 
 from . import engine
 from .along import Along
@@ -9,7 +10,7 @@ from .bench import Bench
 from .changes import sets
 from .documents import compact
 from .elements import way_of, way_of_name
-from .explain import NOT_PROVED, explained_file
+from .explain import NOT_PROVED, explained_files
 from .history import heading, walked
 from .refusal import Refusal
 from .report import counted, line
@@ -123,7 +124,7 @@ def page_data(bench, args):
     for step in steps:
         before = Before(nodes, states[-1], step.changes, touched_by(step.changes))
         states.append(nodes.tree(step.changes.after.whole, before))
-        told.append({"heading": heading(step), "undone": step.undone, "changes": [_shown(change) for change in step.all_changes()]})
+        told.append({"heading": heading(step), "undone": step.undone, "changes": [_shown(change) for change in step.changes.all()]})
     return {
         "object": object_name(live),
         "managers": list(nodes.managers),
@@ -132,7 +133,7 @@ def page_data(bench, args):
         "steps": told,
         "leftOut": left_out,
         "present": sum(1 for step in steps if not step.undone),
-        "manifests": _manifests(args) if args.file else [],
+        "manifests": _manifests(args) if args.files else [],
     }
 
 
@@ -142,7 +143,7 @@ def _shown(change):
 
 
 def _manifests(args):
-    found = explained_file(args)
+    found = explained_files(args)
     return [
         {
             "object": one["object"],
@@ -163,6 +164,8 @@ def _text(value):
 
 
 def do_view(args):
+    if sys.stdout.isatty():
+        raise Refusal(f"view writes a page, which is no text for a terminal: kubectl-ssabench view {args.bench} > bench.html", 2)
     try:
         import jinja2
     except ImportError as missing:

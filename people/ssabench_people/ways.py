@@ -12,6 +12,7 @@ from .documents import compact
 from .objects import IDENTITY, SERVERS_OWN
 from .refusal import Refusal
 
+MOST_ITEMS = 5  # of a list that are told
 NAME = re.compile(r"\.?([^.\[\]]+)")
 KEYS = re.compile(r'\[((?:"(?:[^"\\]|\\.)*"|[^\]"])*)\]')
 PART = re.compile(r'\s*([^=,"]*)=\s*("(?:[^"\\]|\\.)*"|[^,"]*)\s*(?:,|$)')
@@ -50,7 +51,10 @@ def _step(here, text, way):
         near = difflib.get_close_matches(text[2:], here.place.fields, n=1)
         raise Refusal(f"{here.way_of(text)}: no such field{'; ' + near[0] + '?' if near else ''}")
     kinds = {"map": "a list of items known by " + ", ".join(here.place.keys), "set": "a list of values"}
-    raise Refusal(f"{way}: {here.way or 'the object'} is {kinds.get(here.place.kind, 'no list')}")
+    there = [child.way.removeprefix(here.way) for child in here.children()] if here.place.is_list else []
+    more = [".."] if len(there) > MOST_ITEMS else []
+    items = f": {', '.join(there[:MOST_ITEMS] + more)}" if there else ""
+    raise Refusal(f"{way}: {here.way or 'the object'} is {kinds.get(here.place.kind, 'no list')}{items}")
 
 
 def _element(here, rest, way):

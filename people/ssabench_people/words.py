@@ -4,11 +4,13 @@ import importlib
 import os
 import sys
 
+from . import engine
 from .refusal import Refusal
 from .report import line
 
 STATUSES = "statuses: 0 done; 1 refused, or something would be lost; 2 other words; 3 a file, or the proved program"
-FILE = "the manifest, in YAML or JSON; - is standard input"
+OBJECT = "the object, in YAML or JSON; - is standard input"
+FILE = "a manifest, in YAML or JSON; - is standard input; of more documents or files each, in their order"
 FORMS = ("json", "yaml")
 EXAMPLES = {
     "open": "open --schema apps.json -f live.yaml web.bench",
@@ -32,13 +34,14 @@ class Words:
     def __init__(self):
         told = "A workbench for Server-Side Apply."
         self.top = argparse.ArgumentParser(prog="kubectl-ssabench", description=told, epilog=STATUSES, allow_abbrev=False)
+        self.top.add_argument("--version", action=Version, nargs=0, help="which proved program answers")
         self.words = self.top.add_subparsers(dest="word", required=True, metavar="WORD")
 
     def add(self, name, told, do, forms=(), aliases=(), statuses=STATUSES):
-        example = f"example: kubectl-ssabench {EXAMPLES[name]}"
-        ends = f"{example} | {statuses}"
-        word = self.words.add_parser(name, help=told, description=told, epilog=ends, aliases=aliases, allow_abbrev=False)
-        word.set_defaults(do=do, does=name, output=None, dry_run=None)
+        ends = f"example:\n  kubectl-ssabench {EXAMPLES[name]}\n\n{statuses}"
+        how = {"formatter_class": argparse.RawDescriptionHelpFormatter, "allow_abbrev": False}
+        word = self.words.add_parser(name, help=told, description=told, epilog=ends, aliases=aliases, **how)
+        word.set_defaults(do=do, does=name, output=None, dry_run="none")
         word.add_argument("bench", metavar="BENCH", help="the bench's file")
         if forms:
             word.add_argument("-o", "--output", choices=forms, help="the form of what is printed")
@@ -46,15 +49,24 @@ class Words:
 
     def add_of_file(self, name, told, do, field_manager, forms=(), aliases=(), statuses=STATUSES):
         word = self.add(name, told, do, forms, aliases, statuses)
-        word.add_argument("-f", "--filename", dest="file", required=True, metavar="FILE", help=FILE)
+        word.add_argument("-f", "--filename", dest="files", action="append", required=True, metavar="FILE", help=FILE)
         word.add_argument("--field-manager", default=field_manager, metavar="NAME", help=f"who does it ({field_manager})")
         word.add_argument("--subresource", choices=("status",), help="the part of the object that it is done through")
         word.add_argument("--at", metavar="MOMENT", help="the moment, as 2024-05-01T10:00:00Z; now, where none is given")
         return word
 
 
+class Version(argparse.Action):
+    """Prints which proved program is called."""
+
+    def __call__(self, *_):
+        print(engine.version())
+        sys.exit(0)
+
+
 def dry_run(word):
-    word.add_argument("--dry-run", choices=("server",), help="say what it would do, and change nothing; `=server` may be left out")
+    told = "say what it would do, and change nothing; `=server` may be left out"
+    word.add_argument("--dry-run", choices=("none", "server"), help=told)
 
 
 def parser():
@@ -76,9 +88,9 @@ def parser():
         "update", "A manager replaces the object.", "commands.do_command", "kubectl-replace", (*FORMS, "name"), aliases=("replace",)
     )
     dry_run(update)
-    dry_run(words.add("strip", "Forget all managers.", "commands.do_plain", FORMS))
-    words.add("undo", "Go back over a command.", "commands.do_plain", FORMS)
-    words.add("redo", "Go on over an undone command.", "commands.do_plain", FORMS)
+    dry_run(words.add("strip", "Forget all managers.", "commands.do_strip", FORMS))
+    words.add("undo", "Go back over a command.", "commands.do_turn", FORMS)
+    words.add("redo", "Go on over an undone command.", "commands.do_turn", FORMS)
     show = words.add("show", "The object.", "looks.do_show", (*FORMS, "name"))
     show.add_argument("--show-managed-fields", action="store_true", help="with its managers' entries")
     owners = words.add("owners", "Who owns a field, or each.", "looks.do_owners", FORMS)
@@ -86,15 +98,17 @@ def parser():
     owners.add_argument("--ways", action="store_true", help="each field by its whole way, in place of a tree")
     owners.add_argument("--manager", metavar="NAME", help="of all fields those that a manager owns")
     log = words.add("log", "What each command of the history did.", "logs.do_log", FORMS)
-    log.add_argument("--path", metavar="PATH", help="who changed this field, when, from what to what")
-    log.add_argument("--fights", action="store_true", help="the fields that two managers took from each other")
+    which = log.add_mutually_exclusive_group()
+    which.add_argument("--path", metavar="PATH", help="who changed this field, when, from what to what")
+    which.add_argument("--fights", action="store_true", help="the fields that two managers took from each other")
     _add_view(words)
     return words.top
 
 
 def _add_view(words):
     view = words.add("view", "A page of the object, who owns what, and the history, as HTML.", "view.do_view")
-    view.add_argument("-f", "--filename", dest="file", metavar="FILE", help="a manifest that is explained beside the object")
+    told = "a manifest that is explained beside the object"
+    view.add_argument("-f", "--filename", dest="files", action="append", metavar="FILE", help=told)
     view.add_argument("--field-manager", default="kubectl", metavar="NAME", help="who would apply it (kubectl)")
     view.add_argument("--subresource", choices=("status",), help="the part of the object that it would be applied through")
     view.set_defaults(does="apply", at=None, force_conflicts=False, migrate=False)
@@ -106,7 +120,7 @@ def _add_open(words):
     word.add_argument("--schema", action="append", required=True, metavar="FILE", help=schema)
     word.add_argument("--kind", help="the kind, where it isn't the object's")
     word.add_argument("--version", help="the version of the schema, where it isn't the object's")
-    word.add_argument("-f", "--filename", dest="file", required=True, metavar="OBJECT", help=FILE.replace("manifest", "object"))
+    word.add_argument("-f", "--filename", dest="file", required=True, metavar="OBJECT", help=OBJECT)
     word.add_argument("--drop", action="store_true", help="leave out what the bench can't take")
     word.add_argument("--same-schema", action="store_true", help="take entries of other versions as of the object's")
     word.add_argument("--migrate", action="store_true", help="make who wrote by client-side apply the applier")
@@ -117,8 +131,8 @@ def _add_open(words):
 def main(words):
     if words[:1] == ["help"]:
         words = [*words[1:2], "--help"]
-    args = parser().parse_args(["--dry-run=server" if word == "--dry-run" else word for word in words])
     try:
+        args = parser().parse_args(["--dry-run=server" if word == "--dry-run" else word for word in words])
         module, name = args.do.split(".")
         return getattr(importlib.import_module(f".{module}", __package__), name)(args)
     except Refusal as refusal:
@@ -127,6 +141,8 @@ def main(words):
     except RecursionError:
         line("a value is nested too deep")
         return 1
+    except KeyboardInterrupt:
+        return 130
     except BrokenPipeError:
         os.dup2(os.open(os.devnull, os.O_WRONLY), sys.stdout.fileno())
         return 3

@@ -102,59 +102,66 @@ class Measured(unittest.TestCase):
         self.assertGreaterEqual(len(kinds), 127)
         said(f"{len(kinds)} built-in kinds open with the filled objects of k8s.io/api and come back equal; {texts} values stood as texts")
 
-    def filled(self, node, definitions, names):
+    def filled(self, schema, node, definitions, names):
+        """An object that is filled to the last field, with an owner of it all: of the status one who acts through it."""
         value, fields = Filler(definitions).value(node)
         api_version = f"{names['group']}/{names['version']}" if names["group"] else names["version"]
         own = ("apiVersion", "kind", "metadata")
         value = {name: part for name, part in value.items() if name not in own}
         fields = {text: below for text, below in fields.items() if text[2:] not in own}
-        entry = {
-            "apiVersion": api_version, "fieldsType": "FieldsV1", "fieldsV1": fields, "manager": "filler", "operation": "Apply",
-            "time": "2024-05-01T08:00:00Z",
+        plain = {
+            "apiVersion": api_version, "fieldsType": "FieldsV1", "manager": "filler", "operation": "Apply", "time": "2024-05-01T08:00:00Z",
         }  # fmt: skip
-        metadata = {"name": "filled", "namespace": "x", "uid": "u"} | ({"managedFields": [entry]} if fields else {})
+        parts = {"": fields}
+        if schema.has_status and "f:status" in fields:
+            parts = {"": {text: below for text, below in fields.items() if text != "f:status"}, "status": {"f:status": fields["f:status"]}}
+        entries = [plain | {"fieldsV1": owned} | ({"subresource": part} if part else {}) for part, owned in parts.items() if owned]
+        metadata = {"name": "filled", "namespace": "x", "uid": "u"} | ({"managedFields": entries} if entries else {})
         return value | {"apiVersion": api_version, "kind": names["kind"], "metadata": metadata}
 
     def round_trip(self, documents, names, node, definitions):
-        value = self.filled(node, definitions, names)
+        """Opens a filled object, and compares what comes back. Gives how many values stood as texts, and whether there was an owner
+        through the status."""
+        value = self.filled(schemas.found(documents, "schema", names), node, definitions, names)
         back, entries, report = self.opened(documents, names, value)
         self.same(value, back)
         self.assertEqual(compact(entries), compact(value["metadata"].get("managedFields") or []))
         self.assertEqual(report.losses, 0)
-        return report.total("text", "open")
+        return report.total("text", "open"), any("subresource" in entry for entry in entries)
 
     def test_each_definition_with_a_filled_object_and_its_owner(self):
-        tried, well, texts = 0, 0, 0
+        tried, well, texts, through = 0, 0, 0, 0
         for label, documents, names in real_kinds.definitions():
             tried += 1
             with self.subTest(definition=label):
                 schema = schemas.found(documents, label, names)
-                texts += self.round_trip(documents, names, schema.root, schema.definitions)
-                well += 1
+                found = self.round_trip(documents, names, schema.root, schema.definitions)
+                well, texts, through = well + 1, texts + found[0], through + found[1]
         self.assertGreaterEqual(tried, 100)
         self.assertGreaterEqual(well, tried * 0.98)
-        said(f"{well} of {tried} CustomResourceDefinitions open, filled to the last field, with an owner of it all, and come back equal; {texts} values stood as texts")
+        said(f"{well} of {tried} CustomResourceDefinitions open, filled to the last field, with an owner of it all, {through} of them through the status too, and come back equal; {texts} values stood as texts")
 
     def test_each_kind_of_openshifts_own_server(self):
-        tried = 0
+        tried, through = 0, 0
         for label, documents, names in real_kinds.of_openshifts_server():
             tried += 1
             with self.subTest(kind=label):
                 schema = schemas.found(documents, label, names)
-                self.round_trip(documents, names, schema.root, schema.definitions)
+                through += self.round_trip(documents, names, schema.root, schema.definitions)[1]
         self.assertGreater(tried, 30)
-        said(f"{tried} kinds of OpenShift's own server do so too")
+        said(f"{tried} kinds of OpenShift's own server do so too, {through} of them through the status too")
 
     def test_each_kind_of_openapi_documents_with_a_filled_object_and_its_owner(self):
-        tried = 0
+        tried, through = 0, 0
         for path in (*real_kinds.OPENAPI, real_kinds.SWAGGER):
             documents = real_kinds.read(packages.gocode(path))
             for names, node, definitions in list(real_kinds.kinds_of(documents[0])):
                 tried += 1
                 with self.subTest(path=path, kind=names):
-                    self.round_trip(documents, names, node, definitions)
+                    through += self.round_trip(documents, names, node, definitions)[1]
         self.assertGreater(tried, 100)
-        said(f"{tried} kinds of {len(real_kinds.OPENAPI)} OpenAPI v3 documents and one of v2 do so too")
+        self.assertGreater(through, 30)
+        said(f"{tried} kinds of {len(real_kinds.OPENAPI)} OpenAPI v3 documents and one of v2 do so too, {through} of them through the status too")
 
     def test_manifests_that_kubectl_writes(self):
         if shutil.which("kubectl") is None:

@@ -122,7 +122,7 @@ class Mutated(unittest.TestCase):
         self.assertTrue(out or status == 1)
         for look in (("owners",), ("owners", "--ways"), ("log",), ("log", "--fights")):
             self.assertEqual(run(*look, bench)[0], 0)
-        page_data(Bench(bench), argparse.Namespace(file=None))
+        page_data(Bench(bench), argparse.Namespace(files=None))
         return 1
 
 

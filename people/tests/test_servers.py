@@ -5,14 +5,17 @@ import beside  # noqa: F401
 from ssabench_people.changes import Changes
 from ssabench_people.places import root_of
 from ssabench_people.schemas import KindSchema
-from ssabench_people.servers import merged_order, removals, with_fields_above
+from ssabench_people.servers import kept, merged_order, removals, with_fields_above
 
 TEXT = {"type": "string"}
 ITEM = {"type": "object", "properties": {"name": TEXT, "image": TEXT, "probe": {"type": "object", "properties": {"path": TEXT, "period": TEXT}}}}
+ITEMS = {"type": "array", "x-kubernetes-list-type": "map", "x-kubernetes-list-map-keys": ["name"], "items": ITEM}
 SPEC = {
     "type": "object",
     "properties": {
-        "items": {"type": "array", "x-kubernetes-list-type": "map", "x-kubernetes-list-map-keys": ["name"], "items": ITEM},
+        "items": ITEMS,
+        "args": {"type": "array", "x-kubernetes-list-type": "atomic", "items": TEXT},
+        "inner": {"type": "object", "properties": {"items": ITEMS, "path": TEXT}},
         "limits": {"type": "object", "additionalProperties": TEXT},
         "groups": {"type": "object", "additionalProperties": ITEM},
         "probe": {"type": "object", "properties": {"path": TEXT, "period": TEXT}},
@@ -93,11 +96,29 @@ class Removals(unittest.TestCase):
             ({"items": [{"name": "a"}], "limits": {"cpu": "1"}}, []),
             ({"limits": {"cpu": "1"}}, []),
             ({"limits": {}}, []),
+            ({"args": [], "limits": {"cpu": "1"}}, []),
+            ({"inner": {"items": []}, "limits": {"cpu": "1"}}, [".spec"]),
+            ({"inner": {"items": [], "path": "/"}, "limits": {"cpu": "1"}}, []),
         ):
             with self.subTest(beside=beside):
                 self.assertEqual(self.told(shown(given_up | beside, team=team), shown(beside, team={})), wanted)
         before = shown(given_up | {"items": []}, team=team, other={"f:limits": {}})
         self.assertEqual(self.told(before, shown({"items": [], "limits": {}}, team={}, other={"f:limits": {}})), [])
+
+    def test_a_list_that_was_applied_as_empty_is_nobodys(self):
+        items, a = ("f:spec", "f:inner", "f:items"), 'k:{"name":"a"}'
+        gone = {**NOTHING, "removed": [list(items), [*items, a], [*items, a, "f:name"]]}
+        team = {"manager": "team", "operation": "Apply"}
+        live = {"inner": {"items": [{"name": "a"}], "path": "/"}, "probe": {"path": "/"}}
+        after = shown({"inner": {"path": "/"}, "probe": {"path": "/"}}, team={"f:probe": {"f:path": {}}})
+        for owned, wanted in (
+            ({"f:items": {}}, ([], [".spec.inner.items"])),
+            ({"f:items": {".": {}, a: {".": {}, "f:name": {}}}}, ([".spec.inner"], [])),
+        ):
+            with self.subTest(owned=owned):
+                before = shown(live, team={"f:inner": owned, "f:probe": {"f:path": {}}})
+                changes = Changes(ROOT, before, after, team, gone)
+                self.assertEqual(tuple([way for _, way in told(ROOT, changes)] for told in (removals, kept)), wanted)
 
     def test_fields_above_are_named_ones_only(self):
         path = ("f:spec", "f:items", 'k:{"name":"a"}', "f:probe", "f:path")

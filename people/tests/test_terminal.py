@@ -78,6 +78,15 @@ class Terminal(unittest.TestCase):
         self.assertLessEqual(max(len(line) for line in shown.splitlines()), 60)
         self.assertEqual(len(re.findall(r"^\.", shown, re.MULTILINE)), 11)
 
+    def test_a_page_is_not_written_to_a_terminal(self):
+        here, there = pty.openpty()
+        words = [sys.executable, PROGRAM, "view", "web.bench"]
+        ran = subprocess.run(words, cwd=self.folder, stdout=there, stderr=subprocess.PIPE, text=True, check=False)
+        os.close(there)
+        os.close(here)
+        told = "kubectl-ssabench: view writes a page, which is no text for a terminal: kubectl-ssabench view web.bench > bench.html\n"
+        self.assertEqual((ran.returncode, ran.stderr), (2, told))
+
     def test_a_table_without_rich_is_plain(self):
         blocked = os.path.join(self.folder, "rich.py")
         with open(blocked, "w", encoding="utf-8") as file:

@@ -14,9 +14,10 @@ import beside  # noqa: F401
 from ssabench_people import view
 from ssabench_people.bench import Bench
 from ssabench_people.view import page_data
-from ssabench_people.words import main
+from ssabench_people.words import main, parser
 
 EXAMPLE = os.path.join(os.path.dirname(os.path.dirname(os.path.realpath(__file__))), "example")
+CONDITIONS = os.path.join(os.path.dirname(os.path.realpath(__file__)), "stories", "conditions")
 STORIES, COMMANDS = 8, 7
 SPEC = "        spec: {allOf:"
 STATUS = """        status:
@@ -217,7 +218,7 @@ class Trees(unittest.TestCase):
             for words in (("update", "-f", turned), ("apply", "-f", team, "--field-manager", "team", "--force-conflicts")):
                 self.assertEqual(run(*words, "-o", "json", "--at", "2024-05-01T10:00:01Z", bench)[0], 0)
                 objects.append(run("show", "-o", "json", "--show-managed-fields", bench)[1])
-            data = page_data(Bench(bench), argparse.Namespace(file=None))
+            data = page_data(Bench(bench), argparse.Namespace(files=None))
         self.assertEqual(len(data["states"]), 3)
         for number, shown in zip(data["states"], objects):
             self.same(data, number, "", {**shown, "metadata": {**shown["metadata"]}}, shown, ())
@@ -234,13 +235,32 @@ class Trees(unittest.TestCase):
             run("undo", "-o", "json", bench)
             told = io.StringIO()
             with unittest.mock.patch.object(view, "MOST_BYTES", 1), contextlib.redirect_stderr(told):
-                short = page_data(Bench(bench), argparse.Namespace(file=None))
+                short = page_data(Bench(bench), argparse.Namespace(files=None))
             with contextlib.redirect_stderr(told):
-                whole = page_data(Bench(bench), argparse.Namespace(file=None))
+                whole = page_data(Bench(bench), argparse.Namespace(files=None))
         self.assertEqual((short["leftOut"], len(short["steps"]), short["present"]), (2, 1, 0))
         self.assertEqual((whole["leftOut"], len(whole["steps"]), whole["present"]), (0, 3, 2))
         self.assertEqual(short["steps"], whole["steps"][2:])
         self.assertEqual(told.getvalue(), "kubectl-ssabench: 2 earlier commands left out: the page would have more than 1 bytes of objects\n")
+
+    def test_the_page_tells_who_acts_through_the_status(self):
+        with tempfile.TemporaryDirectory(prefix="ssabench-trees-") as folder:
+            shutil.copytree(CONDITIONS, folder, dirs_exist_ok=True)
+            bench, crd, live, builder, painter = (
+                os.path.join(folder, name) for name in ("b.bench", "crd.yaml", "live.yaml", "builder.yaml", "painter.yaml")
+            )
+            self.assertEqual(run("open", "--schema", crd, "-f", live, "-o", "json", bench)[0], 0)
+            words = ("--subresource", "status", "--field-manager", "builder", "--at", "2024-05-01T10:00:03Z", "-o", "json", bench)
+            self.assertEqual(run("update", "-f", builder, *words)[0], 0)
+            words = ["view", "-f", painter, "--subresource", "status", "--field-manager", "painter", bench]
+            data = page_data(Bench(bench), parser().parse_args(words))
+        self.assertEqual(data["managers"], ["team (Apply)", "builder (Update through status)", "painter (Apply through status)"])
+        self.assertEqual([step["heading"] for step in data["steps"]], ["2024-05-01T10:00:03Z update by builder through status"])
+        told = [(change["what"], change["way"]) for change in data["steps"][0]["changes"]]
+        self.assertEqual(told[-1], ("removed", '.status.conditions[type="Painted"]'))
+        (manifest,) = data["manifests"]
+        self.assertEqual((manifest["manager"], manifest["conflicts"]), ("painter through status", []))
+        self.assertEqual([(change["what"], change["way"]) for change in manifest["changes"]], [("added", '.status.conditions[type="Painted"]')])
 
     def same(self, data, number, way, value, shown, path):
         """Whether a node is a value with its owners, all the way down; metadata's sets aside."""

@@ -106,7 +106,17 @@ class Asking(unittest.TestCase):
             with self.subTest(words=words):
                 self.assertIn(run(*words, "web.bench", folder=self.folder).returncode, (0, 1))
                 self.assertEqual(digests(self.folder), before)
-        self.assertEqual(self.run_well("redo", "web.bench"), "redone: 2 commands can be undone, 0 redone\n")
+        self.assertEqual(self.run_well("redo", "web.bench"), "redone: strip; 2 commands can be undone, 0 redone\n")
+
+    def test_no_dry_run_is_none(self):
+        before = digests(self.folder)
+        self.run_well("apply", *TEAM, *AT, "--dry-run=none", "web.bench")
+        self.assertNotEqual(digests(self.folder), before)
+
+    def test_files_are_taken_in_their_order(self):
+        words = ("-f", "team.yaml", "-f", "../history/replicas.yaml", "--field-manager", "team", "--dry-run", *AT)
+        told = self.run_well("apply", *words, "web.bench")
+        self.assertEqual(re.findall(r"\.spec\.replicas: (\d -> \d)", told), ["2 -> 3", "3 -> 5"])
 
     def test_server_side_is_taken_and_changes_nothing(self):
         told = self.run_well("apply", "--server-side", *TEAM, *AT, "--dry-run", "web.bench")

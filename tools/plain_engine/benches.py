@@ -7,8 +7,8 @@ from .schemas import fit
 from .tables import Key, entries, named, part_members, read_entries
 from .values import Fault
 
-# The depth of the history: how many commands can be undone. Beside `is_full` and what a bench file may hold, nothing speaks of it.
-DEPTH = 1_000
+# The greatest depth of a bench: how many commands it keeps to be undone.
+MOST_DEPTH = 1_000
 DROPPED = {'uid', 'resourceVersion', 'generation', 'creationTimestamp', 'selfLink'}
 
 
@@ -69,13 +69,16 @@ def shown(identity, state, managed):
 
 
 class Bench:
-    def __init__(self, schema, kind, identity, state):
-        self.schema, self.kind, self.identity = schema, kind, identity
+    def __init__(self, schema, kind, identity, state, depth=MOST_DEPTH):
+        self.schema, self.kind, self.identity, self.depth = schema, kind, identity, depth
         self.states, self.labels, self.place = [state], [], 0
+        # What the last command that was kept did to the history beside its own state.
+        self.has_cut = self.has_forgotten = False
 
-    def is_same(self, other):
-        """Whether it is of the same schema and object, with the same history."""
-        return all(getattr(self, it) == getattr(other, it) for it in ('schema', 'identity', 'states', 'labels', 'place'))
+    def is_same(self, other, depth=None):
+        """Whether it is of the same schema and object, with the same history, and as deep, or of the depth that is named."""
+        is_so = all(getattr(self, it) == getattr(other, it) for it in ('schema', 'identity', 'states', 'labels', 'place'))
+        return is_so and self.depth == (depth or other.depth)
 
     def state(self):
         return self.states[self.place]
@@ -87,12 +90,11 @@ class Bench:
         return len(self.labels) - self.place
 
     def is_full(self):
-        return self.past() >= DEPTH
+        """Whether a further command makes it forget its oldest state."""
+        return self.past() >= self.depth
 
     def change(self, command):
         """Carries out an apply, an update or a strip."""
-        if self.is_full():
-            raise Fault(63)
         before, word = self.state(), command['do']
         if word == 'strip':
             after, label = strip(before), {'do': 'strip'}
@@ -117,11 +119,22 @@ class Bench:
         return Act(key, command['at'])
 
     def keep(self, state, label):
-        """Cuts what could be redone, and goes on to the new state."""
+        """Cuts what could be redone, goes on to the new state, and forgets the oldest where more can be undone then than is kept."""
+        self.has_cut = self.future() > 0
         del self.states[self.place + 1:], self.labels[self.place:]
         self.states.append(state)
         self.labels.append(label)
         self.place += 1
+        self.has_forgotten = self.is_beyond_depth()
+        if self.has_forgotten:
+            self.forget()
+
+    def is_beyond_depth(self):
+        return self.place > self.depth
+
+    def forget(self):
+        del self.states[0], self.labels[0]
+        self.place -= 1
 
     def move(self, word):
         """Undoes or redoes a command."""

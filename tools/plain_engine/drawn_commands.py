@@ -111,7 +111,7 @@ def bad_line(dice, bench, step):
         metadata = {**given['metadata'], 'managedFields': dice.pick(([], 1, {}, ''))}
         return text({**command, 'object': {**given, 'metadata': metadata}}).encode()
     if how == 3 and 'object' in command:
-        named = {'manager': dice.pick(RARE_NAMES), 'subresource': dice.pick(('status', 'status', 'scale', '', 1))}
+        named = {'manager': dice.pick(RARE_NAMES), 'subresource': dice.pick(('scale', 1, 'status', '', 'status'))}
         return text({**command, **named}).encode()
     if how < 6 and 'object' in command:
         return text({**command, 'object': spoiled(dice, command['object'])}).encode()

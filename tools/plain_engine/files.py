@@ -1,15 +1,16 @@
 """Bench files: the text of a bench, and the bench or the first fault of a text. Each format is one entry of FORMATS."""
 from typing import NamedTuple
 
-from .benches import DEPTH, Bench, read_state, shown
+from .benches import MOST_DEPTH, Bench, read_state, shown
 from .records import carried, has_shape, record, tells_part
 from .schemas import read_schema
 from .tables import is_in_one_order, is_part_told, named
 from .values import Fault, is_whole, moment, read, text
 
 MOST_BYTES = 67_108_864
-# The one that is saved, in which alone subresources are told.
-WRITTEN = 3
+# The one that is saved, in which alone the depth is told; and those in which subresources are told.
+WRITTEN = 4
+WITH_PARTS = (3, 4)
 
 
 class Format(NamedTuple):
@@ -26,7 +27,7 @@ def states_head(bench, number):
 
 def is_states_head(said):
     return (said.keys() == {'format', 'place', 'states'} and is_whole(said['place']) and is_whole(said['states'])
-            and 0 <= said['place'] < said['states'] <= DEPTH + 1)
+            and 0 <= said['place'] < said['states'] <= MOST_DEPTH + 1)
 
 
 def whole_states(bench):
@@ -40,7 +41,24 @@ def head(bench, number):
 
 def is_head(said):
     return (said.keys() == {'format', 'future', 'past'} and is_whole(said['future']) and is_whole(said['past'])
-            and min(said['future'], said['past']) >= 0 and said['future'] + said['past'] <= DEPTH)
+            and min(said['future'], said['past']) >= 0 and said['future'] + said['past'] <= MOST_DEPTH)
+
+
+def deep_head(bench, number):
+    return {'depth': depth_told(bench), **head(bench, number)}
+
+
+def depth_told(bench):
+    return bench.depth
+
+
+def is_deep_head(said):
+    others = {name: it for name, it in said.items() if name != 'depth'}
+    return is_head(others) and is_whole(said.get('depth')) and 1 <= said['depth'] <= MOST_DEPTH and is_within_depth(said)
+
+
+def is_within_depth(said):
+    return said['future'] + said['past'] <= said['depth']
 
 
 def recorded(bench):
@@ -61,8 +79,13 @@ def file_text(bench, number=WRITTEN):
 
 
 def can_tell(bench, number):
-    """Whether a format can tell a bench."""
-    return number == WRITTEN or not (any(map(is_part_label, bench.labels)) or any(map(has_part, bench.states)))
+    """Whether a format can tell a bench, beside its depth."""
+    return number in WITH_PARTS or not (any(map(is_part_label, bench.labels)) or any(map(has_part, bench.states)))
+
+
+def depth_of(bench, number):
+    """How deep the bench is that is taken from the file of this one."""
+    return bench.depth if number == WRITTEN else MOST_DEPTH
 
 
 def is_part_label(label):
@@ -158,10 +181,10 @@ def read_recorded(lines, first, schema, kind):
     told = lines.next()
     identity, state = as_70(read_state, kind, told)
     that(text(shown(identity, state, True)) == text(told))
-    has_parts = first['format'] == WRITTEN
+    has_parts = first['format'] in WITH_PARTS
     that(has_parts or not has_part(state))
     past, future = (read_way(lines, first[name], state, kind, identity, has_parts) for name in ('past', 'future'))
-    bench = Bench(schema, kind, identity, state)
+    bench = Bench(schema, kind, identity, state, first.get('depth', MOST_DEPTH))
     bench.states = [it for it, _ in reversed(past)] + [state] + [it for it, _ in future]
     bench.labels = [label for _, label in reversed(past)] + [label for _, label in future]
     bench.place = len(past)
@@ -182,4 +205,5 @@ def read_way(lines, number, state, kind, identity, has_parts):
 
 # Each format that is read, by its number.
 FORMATS = {1: Format(states_head, is_states_head, whole_states, read_states),
-           **{number: Format(head, is_head, recorded, read_recorded) for number in (2, 3)}}
+           **{number: Format(head, is_head, recorded, read_recorded) for number in (2, 3)},
+           4: Format(deep_head, is_deep_head, recorded, read_recorded)}

@@ -1,6 +1,6 @@
 """A story, as the plain engine plays it: steps, put together to calls of the program, each with what it has to leave.
 
-A step is ('init', SCHEMA, OBJECT), ('file', TEXT) for a bench's file that comes from elsewhere, ('line', BYTES) of a session,
+A step is ('init', SCHEMA, OBJECT), with a depth behind it where that is not 1,000, ('file', TEXT) for a bench's file that comes from elsewhere, ('line', BYTES) of a session,
 ('last', BYTES) for one that ends without a line feed, ('save',) where a session ends, or ('ask', WORD, ..) for a subcommand.
 Lines that follow one another are one session.
 """

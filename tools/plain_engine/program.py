@@ -17,7 +17,7 @@ class Difference(NamedTuple):
 def words_of(word, given):
     """The words of a call; its files have names of their own."""
     if word == 'init':
-        return ['init', 'schema', 'object', 'bench']
+        return ['init', 'schema', 'object', 'bench'] + ['--depth=%d' % it for it in given[2:]]
     words = [word, 'bench']
     if word in ('apply', 'update'):
         words += ['given', '--at=' + given[1]] + (['--field-manager=' + given[2]] if given[2] != 'kubectl' else [])

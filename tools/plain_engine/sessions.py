@@ -1,7 +1,7 @@
 """Lines and words: which command each is, and what is printed of it."""
 from typing import NamedTuple
 
-from .benches import Bench, read_state
+from .benches import MOST_DEPTH, Bench, read_state
 from .files import file_text, read_file
 from .paths import read_path
 from .schemas import read_schema
@@ -103,10 +103,10 @@ class Desk:
         self.file = file_text(self.bench)
         return Outcome(status, printed(*replies), self.file)
 
-    def init(self, schema, given):
+    def init(self, schema, given, depth=MOST_DEPTH):
         value = read(schema)
         kind = read_schema(value)
-        self.bench = Bench(value, kind, *read_state(kind, read(given)))
+        self.bench = Bench(value, kind, *read_state(kind, read(given)), depth)
         return self.saved(0, [text(self.bench.made())])
 
     def session(self, bench, given):

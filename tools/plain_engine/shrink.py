@@ -38,7 +38,7 @@ class Shrinker:
                 made.step(*step)
             bench = made.bench()
             if bench:
-                start = ('init', text(bench.schema).encode(), text(shown(bench.identity, bench.state(), True)).encode())
+                start = ('init', text(bench.schema).encode(), text(shown(bench.identity, bench.state(), True)).encode(), bench.depth)
                 later = [start, *steps[-number:]]
                 if self.differs(later):
                     return later
@@ -126,7 +126,7 @@ def told(job, steps, found):
     """A story and its difference, for people."""
     lines = ['%s, seed %s, number %d: the %s differs, at step %d of' % (*job, found.what, found.step + 1)]
     for step in steps:
-        names = ('schema', 'object') if step[0] == 'init' else (step[0],) * len(step)
+        names = ('schema', 'object', 'depth') if step[0] == 'init' else (step[0],) * len(step)
         if step[0] == 'ask':
             lines.append('  words   ' + ' '.join(map(shown_bytes, step[1:])))
         elif step[0] == 'file':

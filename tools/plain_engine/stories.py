@@ -1,14 +1,14 @@
 """The kinds of stories that are drawn, and how many of each for a seed."""
 import json
 
-from .benches import read_object
+from .benches import MOST_DEPTH, read_object
 from .bodies import value_at
 from .dice import Dice
 from .drawn_commands import (bad_line, identified, moment, new_value, of_crowd, owned_value, some_change, some_command, some_deed,
                              some_path, with_entries)
 from .drawn_schemas import EVERY_KIND, some_schema
 from .drawn_values import led, permuted, spelled, spoiled, spoiled_bytes
-from .files import FORMATS, can_tell, file_text
+from .files import FORMATS, WRITTEN, can_tell, depth_of, file_text
 from .play import Play
 from .schemas import read_schema
 from .values import text
@@ -31,16 +31,26 @@ def give(dice, play, command):
     return said
 
 
-def begin(dice, play, schema, identity, managers):
+def begin(dice, play, schema, identity, managers, depth=MOST_DEPTH):
     kind = read_schema(schema)
     given = identified(new_value(dice, kind, 2), identity)
     if managers:
         given = with_entries(dice, given, read_object(kind, {**given}).body, managers)
-    play.step('init', text(schema).encode(), text(given).encode())
+    play.step('init', text(schema).encode(), text(given).encode(), *deep(depth))
+
+
+def deep(depth):
+    """A depth as a step tells it: the greatest is told by none."""
+    return (depth,) if depth != MOST_DEPTH else ()
+
+
+def some_depth(dice):
+    """A small one mostly, so that a short story forgets."""
+    return dice.pick((1, 1, 2, 3, 5, 8, 999, MOST_DEPTH))
 
 
 def great(dice, play):
-    """A history up to its depth, with more managers than a table takes, and all of it back and forth."""
+    """A history up to its depth and beyond it, with more managers than a table takes, and all of it back and forth."""
     begin(dice, play, EVERY_KIND, IDENTITIES[0], 0)
     step = 0
     for make, times in ((some_command, DRAWN), (None, CROWD), (some_change, MOST_FILLING)):
@@ -78,7 +88,7 @@ def full(dice, play):
 def small(dice, play):
     """A few commands on a schema that is drawn, some of them spoiled, on an object with managers of its own."""
     schema = EVERY_KIND if dice.one_in(3) else some_schema(dice)
-    begin(dice, play, schema, dice.pick(IDENTITIES), dice.below(6))
+    begin(dice, play, schema, dice.pick(IDENTITIES), dice.below(6), some_depth(dice))
     for step in range(10 + dice.below(30)):
         if play.bench() is None:
             return
@@ -119,7 +129,7 @@ def long_lists(dice, play):
 
 def words(dice, play):
     """Each command a call of its own."""
-    begin(dice, play, EVERY_KIND if dice.one_in(2) else some_schema(dice), dice.pick(IDENTITIES), dice.below(4))
+    begin(dice, play, EVERY_KIND if dice.one_in(2) else some_schema(dice), dice.pick(IDENTITIES), dice.below(4), some_depth(dice))
     for step in range(8 + dice.below(8)):
         if play.bench() is None:
             return
@@ -168,7 +178,7 @@ def starts(dice, play):
 
 def damaged(dice, play):
     """The file of a bench with a history, damaged byte by byte or with something invented in a line, taken and saved."""
-    begin(dice, play, EVERY_KIND if dice.one_in(2) else some_schema(dice), dice.pick(IDENTITIES), dice.below(5))
+    begin(dice, play, EVERY_KIND if dice.one_in(2) else some_schema(dice), dice.pick(IDENTITIES), dice.below(5), some_depth(dice))
     if play.bench() is None:
         return
     for step in range(2 + dice.below(6)):
@@ -201,18 +211,21 @@ def opened(play, bench, number, given):
     """Takes the file of a bench in a format: whether it is taken, as that bench. It is where the format can tell the bench."""
     play.step('file', given)
     taken = play.bench()
-    if (taken is not None) != can_tell(bench, number) or taken and not taken.is_same(bench):
+    if (taken is not None) != can_tell(bench, number) or taken and not taken.is_same(bench, depth_of(bench, number)):
         raise AssertionError('a file of format %d is not taken as its bench' % number)
     if play.tally:
         play.tally.add('format %d: %s' % (number, 'taken' if taken else 'refused'))
+        play.tally.add('format %d: taken with another depth' % number, bool(taken) and taken.depth != bench.depth)
     return taken is not None
 
 
 def formats(dice, play):
-    """A bench with a history, in half of the stories without subresources, saved in each format: each file is taken as the bench, goes on
-    as it does, and is damaged; or is refused where its format cannot tell the bench."""
+    """A bench with a history, in half of the stories without subresources and in some of another depth, saved in each format: each file is
+    taken as the bench, goes on as it does, and is damaged; or is refused, or taken with the greatest depth, where its format cannot tell
+    the bench."""
     is_plain = dice.one_in(2)
-    begin(dice, play, EVERY_KIND if dice.one_in(2) else some_schema(dice), dice.pick(IDENTITIES), dice.below(3 if is_plain else 5))
+    depth = some_depth(dice) if dice.one_in(3) else MOST_DEPTH
+    begin(dice, play, EVERY_KIND if dice.one_in(2) else some_schema(dice), dice.pick(IDENTITIES), dice.below(3 if is_plain else 5), depth)
     if play.bench() is None:
         return
     for step in range(1 + dice.below(10)):
@@ -230,6 +243,18 @@ def formats(dice, play):
             give(dice, play, some_command(dice, play.bench(), 20))
             play.step('save')
         damaged_in_format(dice, play, number, given)
+    for depth in (len(bench.labels), len(bench.labels) - 1, 0):
+        told_depth(play, file_text(bench, WRITTEN), depth)
+
+
+def told_depth(play, given, depth):
+    """The file with another depth, which may be less than it has commands."""
+    first, rest = given.split(b'\n', 1)
+    play.step('file', text({**json.loads(first), 'depth': depth}).encode() + b'\n' + rest)
+    play.step('line', b'{"do":"strip"}')
+    play.step('line', b'{"do":"log"}')
+    if play.tally:
+        play.tally.add('a file %s' % ('as long as its depth' if play.bench() else 'longer than its depth'))
 
 
 def older(dice, play):

@@ -1,9 +1,9 @@
 """What a run met, kind by kind, and which kinds it has to meet."""
-import json
+import json, re
 
-from .benches import read_object
+from .benches import MOST_DEPTH, read_object
 from .bodies import DICT, METADATA, is_leaf, points
-from .files import FORMATS, WRITTEN
+from .files import FORMATS, WITH_PARTS, WRITTEN
 from .operations import Act, owned_by
 from .paths import is_item
 from .tables import Key, part_members
@@ -31,17 +31,20 @@ PARTS = ('an apply through status', 'an update through status', 'one name throug
          'an update through status with another rest than the live one', 'an apply through status without a status',
          'an apply of a status that is not its part')
 FILES = tuple('format %d: %s' % (number, it) for number in sorted(FORMATS) for it in (
-    'a file', 'taken', *(('refused',) if number != WRITTEN else ()), 'a changed file is taken', 'a changed file is refused'))
+    'a file', 'taken', *(('refused',) if number not in WITH_PARTS else ()), *(('taken with another depth',) if number != WRITTEN else ()),
+    'a changed file is taken', 'a changed file is refused'))
+DEPTHS = ('a state forgotten', 'a future cut and nothing forgotten at the depth', 'a file as long as its depth', 'a file longer than its depth',
+          'a depth of 1', 'a depth of 1,000')
 CALLS = ('init', 'session', *(word + ' by words' for word in ('apply', 'update', 'strip', 'undo', 'redo', 'show', 'owners', 'log')),
          'file', 'a changed file is taken', 'status 0', 'status 1', 'status 3', 'files compared', 'history of 1,000')
 # What the stories of each seed have to meet, and what all stories together.
-OF_EACH_SEED = (*COMMANDS, 'accepted', 'Conflict', 'undone', 'redone', 'NothingToUndo', 'NothingToRedo', 'TooManyManagers', 'HistoryFull',
-         'places', 'entries', 'owned paths', *LOOKS, *RECORD, *BODY, *DONE, *ORDERS, *PARTS,
+OF_EACH_SEED = (*COMMANDS, 'accepted', 'Conflict', 'undone', 'redone', 'NothingToUndo', 'NothingToRedo', 'TooManyManagers',
+         *DEPTHS[:2], 'places', 'entries', 'owned paths', *LOOKS, *RECORD, *BODY, *DONE, *ORDERS, *PARTS,
          *('%s: %s' % (deed, it) for deed in DEEDS for it in (*FIELDS, *('a name of %d' % length for length in LENGTHS))))
-ALL = tuple(dict.fromkeys((*OF_EACH_SEED, *REFUSALS, *CALLS, *FILES)))
+ALL = tuple(dict.fromkeys((*OF_EACH_SEED, *REFUSALS, *CALLS, *FILES, *DEPTHS)))
 GROUPS = {'commands': (*COMMANDS, *LOOKS), 'answers': ('accepted', 'undone', 'redone', *REFUSALS), 'states': ('places', 'entries', 'owned paths'),
-          'bodies and tables': BODY, 'what commands did': DONE, 'orders': ORDERS, 'parts': PARTS, 'formats': FILES, 'records': RECORD, 'calls': CALLS}
-FIRST = (*COMMANDS, 'accepted', 'undone', 'redone', 'Conflict', 'TooManyManagers', 'HistoryFull', 'NothingToUndo', 'NothingToRedo',
+          'bodies and tables': BODY, 'what commands did': DONE, 'orders': ORDERS, 'parts': PARTS, 'formats': FILES, 'depths': DEPTHS, 'records': RECORD, 'calls': CALLS}
+FIRST = (*COMMANDS, 'accepted', 'undone', 'redone', 'Conflict', 'TooManyManagers', 'a state forgotten', 'NothingToUndo', 'NothingToRedo',
          'places', 'entries', 'owned paths')
 
 
@@ -85,8 +88,9 @@ class Tally:
     def outcome(self, word, outcome):
         self.add(word, word in CALLS)
         self.add('status %s' % outcome.status)
-        if word == 'file' and outcome.file.startswith(b'{"format":'):
-            self.add('format %s: a file' % outcome.file[10:11].decode('ascii', 'replace'))
+        told = re.match(rb'\{(?:"depth":\d+,)?"format":(\d)', outcome.file) if word == 'file' else None
+        if told:
+            self.add('format %s: a file' % told[1].decode())
         if word in ('init', 'file') and outcome.printed.startswith(b'{"fault":'):
             self.add(json.loads(outcome.printed)['name'])
         if outcome.status == 3 and outcome.printed:
@@ -123,9 +127,18 @@ class Tally:
             self.look('show managed' if command.get('managed') is True else word, bench.state())
             return
         self.add({'undo': 'undone', 'redo': 'redone'}.get(word, 'accepted'))
+        if word in ('apply', 'update', 'strip'):
+            self.kept(bench)
         if word in ('apply', 'update'):
             self.contents(deed, command)
             self.changed(word, command, said, before, bench)
+
+    def kept(self, bench):
+        """What an accepted command did to the history."""
+        self.add('a state forgotten', bench.has_forgotten)
+        self.add('a future cut and nothing forgotten at the depth', bench.has_cut and bench.is_full() and not bench.has_forgotten)
+        self.add('a depth of 1', bench.depth == 1)
+        self.add('a depth of 1,000', bench.depth == MOST_DEPTH)
 
     def contents(self, deed, command):
         given = command['object']

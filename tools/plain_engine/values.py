@@ -8,7 +8,7 @@ NAMES = {1: 'NotJson', 2: 'NullValue', 3: 'NumberOutside', 4: 'TooLong', 6: 'Bad
          12: 'SchemaKeys', 13: 'SchemaDepth', 20: 'UnknownField', 21: 'WrongType', 22: 'MissingKey', 23: 'DuplicateItem',
          24: 'TooManyPaths', 30: 'BadElement', 31: 'IndexElement', 32: 'NotCanonical', 40: 'AbsentPath', 41: 'DuplicateManager',
          42: 'EmptyEntry', 43: 'TooManyManagers', 44: 'OtherVersion', 45: 'BadEntry', 50: 'Conflict', 60: 'Identity',
-         61: 'ManagedFieldsGiven', 62: 'ManagerName', 63: 'HistoryFull', 64: 'NothingToUndo', 65: 'NothingToRedo',
+         61: 'ManagedFieldsGiven', 62: 'ManagerName', 64: 'NothingToUndo', 65: 'NothingToRedo',
          66: 'CommandShape', 67: 'NoSubresource', 70: 'BenchText', 71: 'RecordDoesNotFit'}
 
 

@@ -119,6 +119,35 @@ def no_change_not_kept(bench, state, label):
         keep(bench, state, label)
 
 
+def newest_forgotten(bench):
+    del bench.states[bench.place], bench.labels[bench.place - 1]
+    bench.place -= 1
+
+
+def forgotten_at_the_depth(bench):
+    return bench.place >= bench.depth and bench.place > 1
+
+
+def forgotten_by_a_cut(bench, state, label):
+    """As if the history were shortened before what can be redone is cut off."""
+    is_full = len(bench.labels) >= bench.depth > 0 < bench.future()
+    keep(bench, state, label)
+    if is_full and bench.place > 1:
+        bench.forget()
+
+
+def nothing_forgotten(bench):
+    return False
+
+
+def depth_lost_by_a_save(bench):
+    return benches.MOST_DEPTH
+
+
+def longer_than_its_depth(said):
+    return True
+
+
 def removed_items_at_the_end(bench, word):
     """Undo that puts an item back behind the others."""
     left = bench.state().body
@@ -248,6 +277,9 @@ WRONG = {it[2].__name__: it for it in (
     (operations, 'points', empty_branches_no_points), (operations, 'points', key_fields_no_points),
     (operations, 'compare', order_is_modified),
     (benches.Bench, 'change', future_cleared_by_refusal), (benches.Bench, 'keep', future_kept), (benches.Bench, 'keep', no_change_not_kept),
+    (benches.Bench, 'forget', newest_forgotten), (benches.Bench, 'is_beyond_depth', forgotten_at_the_depth),
+    (benches.Bench, 'keep', forgotten_by_a_cut), (benches.Bench, 'is_beyond_depth', nothing_forgotten),
+    (files, 'depth_told', depth_lost_by_a_save), (files, 'is_within_depth', longer_than_its_depth),
     (benches.Bench, 'move', removed_items_at_the_end), (benches.Bench, 'move', emptied_managers_last),
     (tables, 'read_fields_v1', not_canonical_read), (files.Lines, 'next', second_spelling_read), (files, 'carried', records_not_compared),
     (files, 'at_place', present_state_is_the_last), (files, 'read_line_of_state', commands_of_states_not_asked),

@@ -12,6 +12,7 @@ use Rattle.ssa_model.specs.definitions.GivenEntries as entries
 use Rattle.ssa_model.specs.definitions.Faults.{body_fault_code}
 use Rattle.ssa_model.specs.definitions.Replies.{clash_json, with_fault, fault_json, entry_fault_json, fault_reply, paths_json}
 use Rattle.ssa_path.specs.PartMembers.{part_text}
+use Rattle.ssa_path.proofs.PartTexts.{part-closed}
 use Rattle.ssa_schema.specs.Finds.{told}
 use Rattle.ssa_schema.specs.declared.body_fault.BodyFault.{BodyFault}
 use Rattle.ssa_answers.specs.Faults.{IsFault, bench_code}
@@ -54,11 +55,6 @@ bench_json-told OutOfMemory g is = absurd is
 bench_json-told _ g is = ap fault_reply (sym is)
 
 -- ---- conflicts
-
--- what closes a clash is written behind the member of a subresource
-pub part-closed : (s : Subresource) → part_text s ++ 125 ∷ [] ≡ compact_members true (part_members s no_members)
-part-closed main = refl
-part-closed status = refl
 
 -- the text is that of its members, one behind another
 pub clash-written : (c : Clash) (t0 : Text) {t1 t2 t3 t4 t5 t6 t7 t8 : Text}

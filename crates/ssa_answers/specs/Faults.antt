@@ -10,7 +10,7 @@ use Rattle.ssa_schema.specs.Finds.{told, told_view}
 use Rattle.ssa_merge.specs.Managers.{clashes_view}
 use Rattle.ssa_merge.specs.GivenEntries.{IsEntryFault, entry_code}
 use Rattle.ssa_answers.specs.declared.fault.Fault.{Fault}
-use Rattle.ssa_answers.specs.declared.fault.Fault.TheVariants.{Body, TooManyPaths, Identity, ManagedFieldsGiven, Entry, ManagerName, NoSubresource, HistoryFull, NothingToUndo, NothingToRedo, Conflict, TooManyManagers, OutOfMemory}
+use Rattle.ssa_answers.specs.declared.fault.Fault.TheVariants.{Body, TooManyPaths, Identity, ManagedFieldsGiven, Entry, ManagerName, NoSubresource, NothingToUndo, NothingToRedo, Conflict, TooManyManagers, OutOfMemory}
 
 -- The fault is the given one; a body's fault tells its path by the texts of the elements.
 abbrev pub IsFault : Fault → model.Fault → Type 0
@@ -21,7 +21,6 @@ IsFault ManagedFieldsGiven g = g ≡ model.managed_fields_given
 IsFault (Entry f) g = (h : entries.EntryFault) × (g ≡ model.entry_fault h) × IsEntryFault f h
 IsFault ManagerName g = g ≡ model.manager_name
 IsFault NoSubresource g = g ≡ model.no_subresource
-IsFault HistoryFull g = g ≡ model.history_full
 IsFault NothingToUndo g = g ≡ model.nothing_to_undo
 IsFault NothingToRedo g = g ≡ model.nothing_to_redo
 IsFault (Conflict cs) g = g ≡ model.refused (operations.conflict (clashes_view cs.items))
@@ -37,7 +36,6 @@ bench_code ManagedFieldsGiven = code.managed_fields_given
 bench_code (Entry f) = entry_code f
 bench_code ManagerName = code.manager_name
 bench_code NoSubresource = code.no_subresource
-bench_code HistoryFull = code.history_full
 bench_code NothingToUndo = code.nothing_to_undo
 bench_code NothingToRedo = code.nothing_to_redo
 bench_code (Conflict cs) = code.conflict

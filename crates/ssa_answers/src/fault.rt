@@ -38,9 +38,6 @@ pub enum Fault {
     /// The schema has no such subresource.
     #[error("no such subresource")]
     NoSubresource,
-    /// The history has 1,000 commands before the present state.
-    #[error("1,000 commands before the present state")]
-    HistoryFull,
     #[error("nothing to undo")]
     NothingToUndo,
     #[error("nothing to redo")]
@@ -69,7 +66,6 @@ impl Fault {
             Fault::Entry(fault) => fault.code(),
             Fault::ManagerName => FaultCode::ManagerName,
             Fault::NoSubresource => FaultCode::NoSubresource,
-            Fault::HistoryFull => FaultCode::HistoryFull,
             Fault::NothingToUndo => FaultCode::NothingToUndo,
             Fault::NothingToRedo => FaultCode::NothingToRedo,
             Fault::Conflict(_) => FaultCode::Conflict,

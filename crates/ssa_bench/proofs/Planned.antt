@@ -1,19 +1,16 @@
 -- The answer to a command, from the change that was planned and its record.
-use Rattle.std.proofs.Common.{◌≡◌, ℕ, ◌<◌, arith, List, [], ◌∷◌, take, Bool, true, false, not, length, refl, sym, ap, subst, ◌∙◌}
-use Rattle.std.proofs.lemmas.Bool.Decides.{nat_tests}
-use Rattle.std.specs.Prelude.{Result, Ok, Err, if◌then◌else◌, nat_le, codes}
-use Rattle.ssa_model.specs.definitions.Limits.{most_past}
+use Rattle.std.proofs.Common.{◌≡◌, List, [], ◌∷◌, take, Bool, true, false, not, length, refl, sym, ap, subst, ◌∙◌}
+use Rattle.std.specs.Prelude.{Result, Ok, Err, if◌then◌else◌}
 use Rattle.ssa_model.specs.definitions.Json.{Text, Json}
 use Rattle.ssa_model.specs.definitions.Body.{Body}
 use Rattle.ssa_model.specs.definitions.Parts.{Actor}
-use Rattle.ssa_model.specs.definitions.Operations.{State, Refusal, clashes, strip}
-use Rattle.ssa_model.specs.definitions.History.{Bench, Step, Timeline, appended, is_manager_name, last_state, past_len, present, with_timeline}
-use Rattle.ssa_model.specs.definitions.History as history
+use Rattle.ssa_model.specs.definitions.Operations.{State, Refusal, clashes}
+use Rattle.ssa_model.specs.definitions.History.{Bench, Step, Timeline, advanced, is_manager_name, last_state, present}
 use Rattle.ssa_model.specs.definitions.Answers as model
-use Rattle.ssa_model.specs.definitions.Answers.{Answer, fault, refused, history_full, manager_name, no_subresource, has_part, comparison, accept, accept_or_refuse, command_body, with_body}
+use Rattle.ssa_model.specs.definitions.Answers.{Answer, fault, refused, manager_name, no_subresource, has_part, comparison, accept, accept_or_refuse, command_body, with_body}
 use Rattle.ssa_model.specs.definitions.RecordReading.{HasReadPaths}
 use Rattle.ssa_model.specs.definitions.RecordedBench.{HasReadHistory, HasReadStep}
-use Rattle.ssa_model.specs.definitions.Valid.{IsValidState, KeepsOrder}
+use Rattle.ssa_model.specs.definitions.Valid.{IsValidState, KeepsOrder, is_named}
 use Rattle.ssa_json.specs.Readings.{readings}
 use Rattle.ssa_model.specs.definitions.Carry.{carry}
 use Rattle.ssa_model.specs.definitions.Kind.{Kind}
@@ -37,7 +34,6 @@ use Rattle.ssa_answers.specs.declared.fault.Fault as engine
 use Rattle.ssa_answers.specs.declared.fault.Fault.TheVariants as faults
 use Rattle.ssa_bench.specs.declared.prepared.Prepared.{Prepared}
 use Rattle.ssa_turn.specs.declared.label.Label.{Label}
-use Rattle.ssa_turn.specs.declared.label.Label.TheVariants.{Strip}
 
 -- ---- refusals before the plan
 
@@ -51,7 +47,6 @@ module _ (bench : Bench) (word : Text) where
   told (faults.Entry f) g a e h = record { cause = g; reply = ap (λ x. x.0) e; told = h; stays = ap (λ x. x.1) e }
   told faults.ManagerName g a e h = record { cause = g; reply = ap (λ x. x.0) e; told = h; stays = ap (λ x. x.1) e }
   told faults.NoSubresource g a e h = record { cause = g; reply = ap (λ x. x.0) e; told = h; stays = ap (λ x. x.1) e }
-  told faults.HistoryFull g a e h = record { cause = g; reply = ap (λ x. x.0) e; told = h; stays = ap (λ x. x.1) e }
   told faults.NothingToUndo g a e h = record { cause = g; reply = ap (λ x. x.0) e; told = h; stays = ap (λ x. x.1) e }
   told faults.NothingToRedo g a e h = record { cause = g; reply = ap (λ x. x.0) e; told = h; stays = ap (λ x. x.1) e }
   told (faults.Conflict cs) g a e h = record { cause = g; reply = ap (λ x. x.0) e; told = h; stays = ap (λ x. x.1) e }
@@ -68,7 +63,6 @@ module _ (bench : Bench) (word : Text) where
   told-first (faults.Entry f) r a go h = told (faults.Entry f) h.0 a (go h.0 h.1) h.2
   told-first faults.ManagerName r a go h = told faults.ManagerName h.0 a (go h.0 h.1) h.2
   told-first faults.NoSubresource r a go h = told faults.NoSubresource h.0 a (go h.0 h.1) h.2
-  told-first faults.HistoryFull r a go h = told faults.HistoryFull h.0 a (go h.0 h.1) h.2
   told-first faults.NothingToUndo r a go h = told faults.NothingToUndo h.0 a (go h.0 h.1) h.2
   told-first faults.NothingToRedo r a go h = told faults.NothingToRedo h.0 a (go h.0 h.1) h.2
   told-first (faults.Conflict cs) r a go h = told (faults.Conflict cs) h.0 a (go h.0 h.1) h.2
@@ -79,19 +73,17 @@ module _ (bench : Bench) (who : Actor) (v : Json) (go : Body → Answer) where
   abbrev answered : Result Body model.Fault → Answer
   answered r = elim r [ Ok body ↦ go body | Err f ↦ (fault f, bench) ]
 
-  in_order : (full named parted : Bool) (r : Result Body model.Fault)
-      → (if full then (fault history_full, bench)
-      else (if not named then (fault manager_name, bench) else (if not parted then (fault no_subresource, bench) else answered r)))
-      ≡ answered (if full then Err history_full else (if not named then Err manager_name else (if not parted then Err no_subresource else r)))
-  in_order true named parted r = refl
-  in_order false false parted r = refl
-  in_order false true false r = refl
-  in_order false true true r = refl
+  in_order : (named parted : Bool) (r : Result Body model.Fault)
+      → (if not named then (fault manager_name, bench) else (if not parted then (fault no_subresource, bench) else answered r))
+      ≡ answered (if not named then Err manager_name else (if not parted then Err no_subresource else r))
+  in_order false parted r = refl
+  in_order true false r = refl
+  in_order true true r = refl
 
   -- the tests come first
   pub with_body-tested : (r : Result Body model.Fault) → tested_body bench who v ≡ r → with_body bench who v go ≡ answered r
   with_body-tested r e =
-      in_order (nat_le most_past (past_len bench.timeline)) (is_manager_name who.name) (has_part bench.schema.kind who.part) (command_body bench v)
+      in_order (is_manager_name who.name) (has_part bench.schema.kind who.part) (command_body bench v)
       ∙ ap answered e
 
 -- ---- what was prepared
@@ -152,12 +144,12 @@ pub compares-itself : {before : State} {change : Change} {after : State} → IsC
 compares-itself {before = before} {change = change} is = subst (λ b. IsComparison before.body b change.comparison) (sym is.body_is) is.comparison_is
 
 module _ (bench : Bench) (word : Text) (label : Label) where
-  -- a change that is kept to is the answer
-  planned : (change : Change) (p : Prepared) (after : State) → IsRecorded (present bench.timeline) label change p
+  -- a change that is kept to, under a label with a manager's name, is the answer
+  pub planned : (change : Change) (p : Prepared) (after : State) → is_named (label_view label) ≡ true → IsRecorded (present bench.timeline) label change p
       → IsChange (present bench.timeline) change after
       → IsValidState bench.schema.kind (present bench.timeline) → IsKept bench.schema.kind (present bench.timeline) change
       → IsAccepted bench p (accept bench word (label_view label) after) word
-  planned change p after made is now kept =
+  planned change p after named made is now kept =
       let before = present bench.timeline in
       let kind = bench.schema.kind in
       let target = changed_state before change.body change.comparison.removed change.table in
@@ -173,21 +165,25 @@ module _ (bench : Bench) (word : Text) (label : Label) where
       } in
       record {
         reply = ap (model.changed word) (compared ∙ sym made.changed_is);
-        next = λ i. with_timeline bench (appended bench.timeline (label_view (sym made.label_is i)) (sym (led ∙ same) i));
+        next = λ i. advanced bench (label_view (sym made.label_is i)) (sym (led ∙ same) i);
         valid = subst (IsValidState kind) (sym led) kept.valid;
+        step = record {
+          order = subst (λ (s : State). KeepsOrder before.table s.table) (sym led) kept.order;
+          named = subst (λ l. is_named (label_view l) ≡ true) (sym made.label_is) named;
+        };
         fits = leads.fits;
         room = made.room;
         back = subst HasTableBack (sym led) kept.back;
       }
 
   -- a command whose change is made is accepted, as what was prepared says
-  pub accepted : (change : Change) (p : Prepared) (given : Result State Refusal) → IsRecorded (present bench.timeline) label change p
+  pub accepted : (change : Change) (p : Prepared) (given : Result State Refusal) → is_named (label_view label) ≡ true → IsRecorded (present bench.timeline) label change p
       → IsChanged (present bench.timeline) (Ok change) given
       → IsValidState bench.schema.kind (present bench.timeline) → IsKept bench.schema.kind (present bench.timeline) change
       → IsAccepted bench p (accept_or_refuse bench word (label_view label) given) word
-  accepted change p given made is now kept =
+  accepted change p given named made is now kept =
       let tells : Answer → Type 0 = λ a. IsAccepted bench p a word in
-      subst tells (ap (accept_or_refuse bench word (label_view label)) (sym is.1)) (planned change p is.0 made is.2 now kept)
+      subst tells (ap (accept_or_refuse bench word (label_view label)) (sym is.1)) (planned change p is.0 named made is.2 now kept)
 
   -- a refusal that is told is the answer
   pub refused-planned : (r : plan.Refusal) (given : Result State Refusal) → IsChanged (present bench.timeline) (Err r) given
@@ -230,23 +226,3 @@ last-paths s (t ∷ ts) paths read = last-paths t.state ts (All-head (HasReadSte
 -- the present body's paths are read where all paths of the history are
 pub present-paths : (t : Timeline) → HasReadHistory readings t → HasReadPaths readings (present t).body
 present-paths t h = last-paths t.first (take t.place t.later) h.first (All-take (HasReadStep readings) t.place t.later h.later)
-
--- ---- a Strip
-
-not_full : (most n : ℕ) → n < most → nat_le most n ≡ false
-not_full most n h = grind (arith, nat_tests)
-
--- a strip whose change is made, where the past is not full, is accepted as what was prepared says
-pub stripped-accepted : (bench : Bench) (change : Change) (p : Prepared) (past : ℕ) → past ≡ past_len bench.timeline → past < most_past
-    → IsRecorded (present bench.timeline) Strip change p
-    → IsChange (present bench.timeline) change (strip (present bench.timeline)) → IsValidState bench.schema.kind (present bench.timeline)
-    → IsKept bench.schema.kind (present bench.timeline) change
-    → IsAccepted bench p (if nat_le most_past (past_len bench.timeline) then (
-      fault history_full,
-      bench,
-    ) else accept bench (codes "strip") history.stripped (strip (present bench.timeline))) (codes "strip")
-stripped-accepted bench change p past count few made is now kept =
-    let answer = accept bench (codes "strip") history.stripped (strip (present bench.timeline)) in
-    let tells : Answer → Type 0 = λ a. IsAccepted bench p a (codes "strip") in
-    subst tells (ap (λ b. if b then (fault history_full, bench) else answer) (sym (ap (nat_le most_past) (sym count) ∙ not_full most_past past few)))
-    (planned bench (codes "strip") Strip change p (strip (present bench.timeline)) made is now kept)

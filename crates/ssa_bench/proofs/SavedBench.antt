@@ -5,7 +5,7 @@ use Rattle.std.proofs.lemmas.List.Elements.{All-head, All-tail, All-nil, All-con
 use Rattle.ssa_model.specs.definitions.Limits.{most_bench_bytes}
 use Rattle.ssa_model.specs.definitions.Json.{Json}
 use Rattle.ssa_model.specs.definitions.History.{Bench, future_len, past_len, present}
-use Rattle.ssa_model.specs.definitions.BenchText.{parts, whole_object}
+use Rattle.ssa_model.specs.definitions.BenchText.{depths, whole_object}
 use Rattle.ssa_model.specs.definitions.Formats.{IsFile}
 use Rattle.ssa_model.specs.definitions.MemberNames.{has_rising_names}
 use Rattle.ssa_model.specs.definitions.BenchFile.{IsSpelled, IsValidBench}
@@ -23,22 +23,22 @@ all-spelled (v ∷ vs) read made shallow =
     (all-spelled vs read (All-tail IsOfProgram v vs made) (All-tail IsShallow v vs shallow))
 
 -- the text of a valid bench whose values the program makes is its file
-pub is-file : (bench : Bench) → CompactIsRead → All IsShallow (recorded_values parts bench) → IsValidBench readings bench → HasReadHistory readings bench.timeline
-    → All IsOfProgram (recorded_values parts bench) → length (recorded_text parts bench) ≤ most_bench_bytes
-    → IsFile readings parts (recorded_text parts bench) bench
+pub is-file : (bench : Bench) → CompactIsRead → All IsShallow (recorded_values depths bench) → IsValidBench readings bench → HasReadHistory readings bench.timeline
+    → All IsOfProgram (recorded_values depths bench) → length (recorded_text depths bench) ≤ most_bench_bytes
+    → IsFile readings depths (recorded_text depths bench) bench
 is-file bench read shallow valid paths made fits = record {
   valid = valid;
   paths = paths;
-  tells = record { first = refl; later = λ k d h. (refl, refl) };
+  tells = record { depth = refl; first = refl; later = λ k d h. (refl, refl) };
   text = refl;
   fits = fits;
-  spelled = all-spelled (recorded_values parts bench) read made shallow;
+  spelled = all-spelled (recorded_values depths bench) read made shallow;
 }
 
 -- the names in the schema's value rise
-pub source-names : (bench : Bench) → All IsOfProgram (recorded_values parts bench) → has_rising_names bench.schema.source ≡ true
+pub source-names : (bench : Bench) → All IsOfProgram (recorded_values depths bench) → has_rising_names bench.schema.source ≡ true
 source-names bench made =
     let t = bench.timeline in
-    let head = record_head parts (past_len t) (future_len t) in
+    let head = record_head depths bench.depth (past_len t) (future_len t) in
     let rest = whole_object bench (present t) ∷ past_lines bench t.first (past_steps t) ++ future_lines bench (present t) (future_steps t) in
     (All-head IsOfProgram bench.schema.source rest (All-tail IsOfProgram head (bench.schema.source ∷ rest) made)).names

@@ -1,5 +1,5 @@
 -- Taking the body of a command's object, test by test.
-use Rattle.std.proofs.Common.{List, [], ◌∷◌, Option, Some, None, ◌≡◌, Bool, true, false, not, ◌&&◌, refl, sym, ap, ◌∙◌, true≢false}
+use Rattle.std.proofs.Common.{ℕ, List, [], ◌∷◌, Option, Some, None, ◌≡◌, Bool, true, false, not, ◌&&◌, refl, sym, ap, ◌∙◌, true≢false}
 use Rattle.std.specs.Prelude.{if◌then◌else◌, Ok, Err, Result, is_some, unwrap_or, option_map, codes}
 use Rattle.ssa_model.specs.definitions.Json.{Json, scalar, list, object, is_object}
 use Rattle.ssa_model.specs.definitions.Schema.{Schema}
@@ -14,7 +14,7 @@ use Rattle.ssa_model.specs.definitions.GivenEntries as entries
 use Rattle.ssa_model.specs.definitions.Table.{Table}
 use Rattle.ssa_model.specs.definitions.Operations.{State}
 use Rattle.ssa_model.specs.definitions.Answers as model
-use Rattle.ssa_model.specs.definitions.Answers.{body_fault, refused, identity_fault, managed_fields_given, has_identity, gives_managed_fields, names_itself, body_or_fault, command_body, bench_of, given_table, with_lone_state, with_table, file_state}
+use Rattle.ssa_model.specs.definitions.Answers.{body_fault, refused, identity_fault, managed_fields_given, has_identity, gives_managed_fields, names_itself, body_or_fault, command_body, bench_with, given_table, with_lone_state, with_table, file_state}
 use Rattle.ssa_model.proofs.GivenBodies.{by_faults}
 use Rattle.ssa_schema.specs.Finds.{Told, told, told_view}
 use Rattle.ssa_schema.specs.Refusals.{first_of}
@@ -24,7 +24,7 @@ use Rattle.ssa_bench.specs.Benches.{table_or_fault}
 use Rattle.ssa_answers.specs.Faults.{IsFault, IsGiven}
 use Rattle.ssa_object.specs.Identities.{identity_in}
 use Rattle.ssa_answers.specs.declared.fault.Fault.{Fault}
-use Rattle.ssa_answers.specs.declared.fault.Fault.TheVariants.{Body, TooManyPaths, Identity, ManagedFieldsGiven, Entry, ManagerName, NoSubresource, HistoryFull, NothingToUndo, NothingToRedo, Conflict, TooManyManagers, OutOfMemory}
+use Rattle.ssa_answers.specs.declared.fault.Fault.TheVariants.{Body, TooManyPaths, Identity, ManagedFieldsGiven, Entry, ManagerName, NoSubresource, NothingToUndo, NothingToRedo, Conflict, TooManyManagers, OutOfMemory}
 
 -- ---- faults that are told
 
@@ -38,7 +38,6 @@ passed-on ManagedFieldsGiven r s go h = (h.0, go h.0 h.1, h.2)
 passed-on (Entry f) r s go h = (h.0, go h.0 h.1, h.2)
 passed-on ManagerName r s go h = (h.0, go h.0 h.1, h.2)
 passed-on NoSubresource r s go h = (h.0, go h.0 h.1, h.2)
-passed-on HistoryFull r s go h = (h.0, go h.0 h.1, h.2)
 passed-on NothingToUndo r s go h = (h.0, go h.0 h.1, h.2)
 passed-on NothingToRedo r s go h = (h.0, go h.0 h.1, h.2)
 passed-on (Conflict cs) r s go h = (h.0, go h.0 h.1, h.2)
@@ -115,20 +114,20 @@ pub file_state-body : (kind : Kind) (v : Json) (body : bodies.Body) (r : Result 
     → file_state readings kind v ≡ and_body body r
 file_state-body kind v body r e h = ap (and_table v) e ∙ with_table-or_fault body (given_table readings body v) ∙ ap (and_body body) h
 
-abbrev made : Schema → Json → Bool → Result State model.Fault → Result Bench model.Fault
-made schema v identity r = if not identity then Err identity_fault else with_lone_state schema (identity_of v) r
+abbrev made : ℕ → Schema → Json → Bool → Result State model.Fault → Result Bench model.Fault
+made depth schema v identity r = if not identity then Err identity_fault else with_lone_state depth schema (identity_of v) r
 
-bench_of-tested : (schema : Schema) (v : Json) → is_object v ≡ true
-    → bench_of readings schema v ≡ made schema v (names_itself v) (file_state readings schema.kind v)
-bench_of-tested schema (object ms) h = refl
-bench_of-tested schema (list vs) h = absurd (true≢false (sym h))
-bench_of-tested schema (scalar s) h = absurd (true≢false (sym h))
+bench-tested : (depth : ℕ) (schema : Schema) (v : Json) → is_object v ≡ true
+    → bench_with readings depth schema v ≡ made depth schema v (names_itself v) (file_state readings schema.kind v)
+bench-tested depth schema (object ms) h = refl
+bench-tested depth schema (list vs) h = absurd (true≢false (sym h))
+bench-tested depth schema (scalar s) h = absurd (true≢false (sym h))
 
 -- a new bench of a value that is no object is refused as of the wrong type, at the root
-pub bench_of-no_object : (schema : Schema) (v : Json) → is_object v ≡ false → bench_of readings schema v ≡ Err (body_fault wrong_type [])
-bench_of-no_object schema (object ms) h = absurd (true≢false h)
-bench_of-no_object schema (list vs) h = refl
-bench_of-no_object schema (scalar s) h = refl
+pub bench-no_object : (depth : ℕ) (schema : Schema) (v : Json) → is_object v ≡ false → bench_with readings depth schema v ≡ Err (body_fault wrong_type [])
+bench-no_object depth schema (object ms) h = absurd (true≢false h)
+bench-no_object depth schema (list vs) h = refl
+bench-no_object depth schema (scalar s) h = refl
 
 abbrev shown_identity : Json → Bool → Option objects.Identity
 shown_identity v b = if b then Some (identity_of v) else None
@@ -146,14 +145,14 @@ pub identity-found : (v : Json) (i : objects.Identity) → ◌≡◌ {A = Option
 identity-found v i h = (named v (names_itself v) i h).1
 
 -- a new bench of an object without an identity is refused for that
-pub bench_of-nameless : (schema : Schema) (v : Json) → is_object v ≡ true → ◌≡◌ {A = Option objects.Identity} None (identity_in v)
-    → bench_of readings schema v ≡ Err identity_fault
-bench_of-nameless schema v o h = bench_of-tested schema v o ∙ ap (λ b. made schema v b (file_state readings schema.kind v)) (unnamed v (names_itself v) h)
+pub bench-nameless : (depth : ℕ) (schema : Schema) (v : Json) → is_object v ≡ true → ◌≡◌ {A = Option objects.Identity} None (identity_in v)
+    → bench_with readings depth schema v ≡ Err identity_fault
+bench-nameless depth schema v o h = bench-tested depth schema v o ∙ ap (λ b. made depth schema v b (file_state readings schema.kind v)) (unnamed v (names_itself v) h)
 
 -- a new bench of an object with an identity has the one state of its file, or is refused by the fault of that state
-pub bench_of-state : (schema : Schema) (v : Json) (i : objects.Identity) (r : Result State model.Fault) → is_object v ≡ true
+pub bench-state : (depth : ℕ) (schema : Schema) (v : Json) (i : objects.Identity) (r : Result State model.Fault) → is_object v ≡ true
     → ◌≡◌ {A = Option objects.Identity} (Some i) (identity_in v)
-    → file_state readings schema.kind v ≡ r → bench_of readings schema v ≡ with_lone_state schema i r
-bench_of-state schema v i r o h e =
+    → file_state readings schema.kind v ≡ r → bench_with readings depth schema v ≡ with_lone_state depth schema i r
+bench-state depth schema v i r o h e =
     let found = named v (names_itself v) i h in
-    bench_of-tested schema v o ∙ (λ k. made schema v (found.0 k) (e k)) ∙ (λ k. with_lone_state schema (sym found.1 k) r)
+    bench-tested depth schema v o ∙ (λ k. made depth schema v (found.0 k) (e k)) ∙ (λ k. with_lone_state depth schema (sym found.1 k) r)

@@ -1,22 +1,22 @@
 -- Laws of taking a bench from the lines of its file, one by one.
-use Rattle.std.proofs.Common.{◌≡◌, ◌<◌, ℕ, List, [], ◌∷◌, length, take, Bool, true, false, not, ◌&&◌, ◌||◌, Option, Some, None, refl, sym, ap, ◌∙◌, arith}
+use Rattle.std.proofs.Common.{◌≡◌, ◌<◌, ◌≤◌, ◌+◌, ℕ, subst, List, [], ◌∷◌, length, take, Bool, true, false, not, ◌&&◌, ◌||◌, Option, Some, None, refl, sym, ap, ◌∙◌, arith}
 use Rattle.std.specs.List.{All}
 use Rattle.std.proofs.lemmas.List.Elements.{All-cons, All-head, All-tail, All-take}
+use Rattle.std.proofs.lemmas.Bool.Decides.{nat_tests}
 use Rattle.std.proofs.lemmas.Option.{none-some}
-use Rattle.std.specs.Prelude.{codes, if◌then◌else◌, Result, Ok, Err}
+use Rattle.std.specs.Prelude.{codes, if◌then◌else◌, nat_lt, Result, Ok, Err}
 use Rattle.ssa_model.specs.definitions.Json.{Json, compact, same_text, member_at}
 use Rattle.ssa_model.specs.definitions.BenchText.{Format}
 use Rattle.ssa_model.specs.definitions.Commands.{value_in}
 use Rattle.ssa_model.specs.definitions.Entries.{text_json, version_in}
 use Rattle.ssa_model.specs.definitions.Formats.{can_tell_line, tells_parts}
 use Rattle.ssa_model.specs.definitions.Kind.{Kind}
-use Rattle.ssa_model.specs.definitions.Limits.{most_past}
 use Rattle.ssa_model.specs.definitions.MemberNames.{has_rising_names}
 use Rattle.ssa_model.specs.definitions.Operations.{State}
 use Rattle.ssa_model.specs.definitions.Replies.{label_json}
 use Rattle.ssa_model.specs.definitions.Schema as schemas
 use Rattle.ssa_model.specs.definitions.Schema.{Schema}
-use Rattle.ssa_model.specs.definitions.History.{Bench, Label, applied, updated, stripped, Step, Timeline, last_state, present}
+use Rattle.ssa_model.specs.definitions.History.{Bench, Label, applied, updated, stripped, Step, Timeline, appended, forgotten, last_state, past_len, present}
 use Rattle.ssa_model.specs.definitions.BenchFile.{IsLabel, IsReadBack, IsStep, IsValidBench}
 use Rattle.ssa_model.specs.definitions.Record.{record_of}
 use Rattle.ssa_model.specs.definitions.RecordReading.{Test, has_members, is_record_shape, HasReadPaths, IsReadState}
@@ -24,13 +24,14 @@ use Rattle.ssa_model.specs.definitions.RecordText.{record_json}
 use Rattle.ssa_model.specs.definitions.RecordedBench.{HasReadHistory, HasReadStep}
 use Rattle.ssa_model.specs.definitions.Table.{Table}
 use Rattle.ssa_model.specs.definitions.ToldParts.{has_subresource, tells_subresource}
-use Rattle.ssa_model.specs.definitions.Valid.{AllEntries, IsValidHistory, IsValidState, KeepsOrder, MakesNamed, MakesValid, is_named}
+use Rattle.ssa_model.specs.definitions.Valid.{AllEntries, IsNextStep, IsValidHistory, IsValidState, KeepsOrder, MakesNamed, MakesValid, is_named}
 use Rattle.ssa_model.specs.laws.BenchFiles.{given_if, is_label, is_written_as, label_in, said_label, schema_in}
 use Rattle.ssa_model.specs.laws.LineByLine.{preceded}
 use Rattle.ssa_model.specs.laws.RecordedBenches.{is_label_shape, is_move_shape, MoveFault, no_move_text, record_does_not_fit, told_value, value_move}
 use Rattle.ssa_model.specs.laws.RecordedMoves.{IsReadBackState, LineIsMove, LineOfParts, MisfitIsTold, ShapelessIsNoMove, TellsLines}
 use Rattle.ssa_model.proofs.Given.{given-back}
 use Rattle.ssa_model.proofs.RecordsBack.{record_texts_have_shape}
+use Rattle.ssa_model.proofs.ValidHistories.{next_keeps_history}
 use Rattle.ssa_model.proofs.ValidTimelines.{present_valid}
 use Rattle.ssa_json.specs.Readings.{readings}
 use Rattle.ssa_json.specs.View.{view}
@@ -264,9 +265,9 @@ told-answer f bench l v label version moves shapeless misfits parts valid read n
 -- ---- the history behind a move
 
 -- a state before all others, which the record led to
-pub preceded-history : (kind : Kind) (t : Timeline) (label : Label) (w : State) → IsValidHistory kind t → length t.later < most_past → IsValidState kind w
-    → KeepsOrder t.first.table w.table → is_named label ≡ true → IsValidHistory kind (preceded t label w)
-preceded-history kind t label w h few valid order named =
+pub preceded-history : (kind : Kind) (depth : ℕ) (t : Timeline) (label : Label) (w : State) → IsValidHistory kind depth t → length t.later < depth
+    → IsValidState kind w → KeepsOrder t.first.table w.table → is_named label ≡ true → IsValidHistory kind depth (preceded t label w)
+preceded-history kind depth t label w h few valid order named =
     let s : Step = record { label = label; state = t.first } in
     record {
       states = record { first = valid; later = All-cons (MakesValid kind) s t.later h.states.first h.states.later };
@@ -274,3 +275,13 @@ preceded-history kind t label w h few valid order named =
       names = All-cons MakesNamed s t.later named h.names;
       few = omega (arith, few);
     }
+
+-- a state behind the present one, where the history is shorter than its depth
+pub appended-history : (kind : Kind) (depth : ℕ) (t : Timeline) (label : Label) (w : State) → IsValidHistory kind depth t → t.place ≤ length t.later
+    → past_len t < depth → IsValidState kind w → IsNextStep t label w → IsValidHistory kind depth (appended t label w)
+appended-history kind depth t label w h within few valid next =
+    subst (λ b. IsValidHistory kind depth (if b then forgotten (appended t label w) else appended t label w)) (kept depth t.place few)
+    (next_keeps_history kind depth t label w h within valid next)
+  where
+    kept : (depth place : ℕ) → place < depth → nat_lt depth (place + 1) ≡ false
+    kept depth place lt = grind (arith, nat_tests)

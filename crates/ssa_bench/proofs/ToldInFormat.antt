@@ -1,8 +1,8 @@
 -- What a format can tell of a bench is taken as it would be in any format, and what it cannot tell is not taken.
-use Rattle.std.proofs.Common.{◌≡◌, Bool, true, false, ◌&&◌, Option, Some, None, refl, ap, ◌∙◌}
+use Rattle.std.proofs.Common.{◌≡◌, ℕ, Bool, true, false, ◌&&◌, Option, Some, None, refl, ap, ◌∙◌}
 use Rattle.std.specs.Prelude.{codes, option_and_then, Result, Ok, Err}
 use Rattle.ssa_model.specs.definitions.Answers as model
-use Rattle.ssa_model.specs.definitions.Answers.{bench_of, file_state}
+use Rattle.ssa_model.specs.definitions.Answers.{bench_of, bench_with, file_state}
 use Rattle.ssa_model.specs.definitions.BenchText.{Format, states, whole_object, first_json, step_json}
 use Rattle.ssa_model.specs.definitions.Commands.{value_in}
 use Rattle.ssa_model.specs.definitions.Formats.{can_tell_label, can_tell_state}
@@ -25,20 +25,20 @@ never-given false b x h = refl
 
 -- ---- the present state of a file of records
 
-module _ (f : Format) (schema : Schema) (v : Json) (now : Bench) (made : bench_of readings schema v ≡ Ok now) where
+module _ (f : Format) (depth : ℕ) (schema : Schema) (v : Json) (now : Bench) (made : bench_with readings depth schema v ≡ Ok now) where
   abbrev own : Bool
   own = is_written_as (whole_object now now.timeline.first) v
 
-  shown : present_in readings f schema v ≡ given_if (own && can_tell_state f now.timeline.first) now
+  shown : present_in readings f depth schema v ≡ given_if (own && can_tell_state f now.timeline.first) now
   shown =
       ap
       (λ (r : Result Bench model.Fault). elim r
       [ Ok bench ↦ given_if (is_written_as (whole_object bench bench.timeline.first) v && can_tell_state f bench.timeline.first) bench | Err e ↦ None ]) made
 
-  pub present-told : can_tell_state f now.timeline.first ≡ true → present_in readings f schema v ≡ given_if own now
+  pub present-told : can_tell_state f now.timeline.first ≡ true → present_in readings f depth schema v ≡ given_if own now
   present-told told = shown ∙ first-decides own (can_tell_state f now.timeline.first) now told
 
-  pub present-untold : can_tell_state f now.timeline.first ≡ false → present_in readings f schema v ≡ None
+  pub present-untold : can_tell_state f now.timeline.first ≡ false → present_in readings f depth schema v ≡ None
   present-untold untold = shown ∙ never-given own (can_tell_state f now.timeline.first) now untold
 
 -- ---- the first state of a file of whole states

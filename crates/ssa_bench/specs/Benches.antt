@@ -1,6 +1,5 @@
 -- What commands on a bench answer, and how the bench goes on.
-use Rattle.std.specs.Prelude.{◌≡◌, [], ◌∷◌, Option, None, Some, Result, Ok, Err, if◌then◌else◌, not, nat_le, length, codes}
-use Rattle.ssa_model.specs.definitions.Limits.{most_past}
+use Rattle.std.specs.Prelude.{◌≡◌, [], ◌∷◌, Option, None, Some, Result, Ok, Err, if◌then◌else◌, not, length, codes}
 use Rattle.ssa_model.specs.definitions.Objects.{value_at}
 use Rattle.ssa_model.specs.definitions.Commands.{text_in}
 use Rattle.ssa_model.specs.definitions.Json.{Text, Json}
@@ -9,13 +8,13 @@ use Rattle.ssa_model.specs.definitions.Parts.{Actor}
 use Rattle.ssa_model.specs.definitions.Table.{Table, key_of, updates}
 use Rattle.ssa_model.specs.definitions.GivenEntries.{EntryFault, table_of}
 use Rattle.ssa_model.specs.definitions.History as model
-use Rattle.ssa_model.specs.definitions.History.{appended, is_manager_name, past_len, present, with_timeline}
+use Rattle.ssa_model.specs.definitions.History.{advanced, is_manager_name, present}
 use Rattle.ssa_model.specs.definitions.Carry.{carry}
 use Rattle.ssa_model.specs.definitions.Operations as operations
 use Rattle.ssa_model.specs.definitions.Operations.{update}
 use Rattle.ssa_model.specs.definitions.Answers as answers
 use Rattle.ssa_model.specs.definitions.Answers.{Answer}
-use Rattle.ssa_model.specs.definitions.Valid.{IsValidState}
+use Rattle.ssa_model.specs.definitions.Valid.{IsNextStep, IsValidState}
 use Rattle.ssa_json.specs.Readings.{readings}
 use Rattle.ssa_merge.specs.States.{state_view}
 use Rattle.ssa_merge.specs.TableChanges.{changed_table}
@@ -66,9 +65,9 @@ led_to bench p = carry (state_steps p.step.value.0) (present bench.timeline)
 abbrev pub LeadsToValid : model.Bench → Prepared → Type 0
 LeadsToValid bench p = IsValidState bench.schema.kind (led_to bench p)
 
--- the bench with the new state behind its present one
+-- the bench with the new state behind its present one, and without its oldest where it then has more than its depth
 abbrev pub next_bench : model.Bench → Prepared → model.Bench
-next_bench bench p = with_timeline bench (appended bench.timeline (label_view p.step.value.1) (led_to bench p))
+next_bench bench p = advanced bench (label_view p.step.value.1) (led_to bench p)
 
 -- what a change of a state changes
 abbrev pub changed_by : operations.State → Change → answers.Changed
@@ -83,9 +82,8 @@ changed_by before c =
 -- the body of an Apply's or an Update's object, or the command's first fault
 abbrev pub tested_body : model.Bench → Actor → Json → Result Body answers.Fault
 tested_body bench who v =
-    if nat_le most_past (past_len bench.timeline) then Err answers.history_full
-    else (if not (is_manager_name who.name) then Err answers.manager_name
-    else (if not (answers.has_part bench.schema.kind who.part) then Err answers.no_subresource else answers.command_body bench v))
+    if not (is_manager_name who.name) then Err answers.manager_name
+    else (if not (answers.has_part bench.schema.kind who.part) then Err answers.no_subresource else answers.command_body bench v)
 
 -- the answer to an Update to a body
 abbrev pub update_answer : model.Bench → Actor → Text → Body → Answer
@@ -99,11 +97,12 @@ pub record IsRefused (bench : model.Bench) (f : Fault) (given : Answer) : Type 0
   pub told : IsFault f cause
   pub stays : given.1 ≡ bench
 
--- the answer tells what is prepared, whose record leads from the present state to a valid one, with room for its turns
+-- the answer tells what is prepared, whose record leads from the present state to a valid one by which the history may go on, with room for its turns
 pub record IsAccepted (bench : model.Bench) (p : Prepared) (given : Answer) (word : Text) : Type 0 where
   pub reply : given.0 ≡ answers.changed word (changed_view p.changed)
   pub next : given.1 ≡ next_bench bench p
   pub valid : LeadsToValid bench p
+  pub step : IsNextStep bench.timeline (label_view p.step.value.1) (led_to bench p)
   pub fits : IsTaken (state_steps p.step.value.0) (present bench.timeline) (led_to bench p)
   pub room : HasStateRoom p.step.value.0 (present bench.timeline)
   pub back : HasTableBack (led_to bench p)

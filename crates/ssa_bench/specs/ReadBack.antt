@@ -2,6 +2,7 @@
 use Rattle.std.specs.Prelude.{◌≡◌, Ok}
 use Rattle.std.specs.List.{All}
 use Rattle.ssa_model.specs.definitions.Answers.{bench_of, lone_bench}
+use Rattle.ssa_model.specs.definitions.Limits.{most_past}
 use Rattle.ssa_model.specs.definitions.BenchText.{whole_object}
 use Rattle.ssa_model.specs.definitions.History.{Bench, Step}
 use Rattle.ssa_model.specs.definitions.Operations.{State}
@@ -9,7 +10,7 @@ use Rattle.ssa_json.specs.Readings.{readings}
 
 -- the object that is shown of the state with the managers' entries is taken as the state by an object file
 abbrev pub IsTakenBack : Bench → State → Type 0
-IsTakenBack bench s = bench_of readings bench.schema (whole_object bench s) ≡ Ok (lone_bench bench.schema bench.identity s)
+IsTakenBack bench s = bench_of readings bench.schema (whole_object bench s) ≡ Ok (lone_bench most_past bench.schema bench.identity s)
 
 abbrev pub MakesTakenBack : Bench → Step → Type 0
 MakesTakenBack bench s = IsTakenBack bench s.state

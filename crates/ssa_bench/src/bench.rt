@@ -1,11 +1,11 @@
 //! The bench: an object, its managers, and the history of commands on it.
 ghost use Rattle.std.specs.Prelude.{◌≡◌, Ok, ◌≤◌, ◌<◌, ◌-◌, ◌^◌, ◌||◌, length, IfErr, IfOk, OnOk, OnErr, true, option_map, codes, string_bytes};
 ghost use Rattle.ssa_model.specs.definitions.Limits.{most_bench_bytes};
-ghost use Rattle.ssa_model.specs.definitions.Answers.{answer, apply, update, strip, undo, redo, log, logged, apply_answer, bench_of, body_or_fault, command_body, owners_of, file_state, lone_bench};
+ghost use Rattle.ssa_model.specs.definitions.Answers.{answer, apply, update, strip, undo, redo, log, logged, apply_answer, bench_of, bench_with, body_or_fault, command_body, owners_of, file_state, lone_bench};
 ghost use Rattle.ssa_model.specs.definitions.Entries.{object_of_state};
 ghost use Rattle.ssa_model.specs.definitions.History.{is_manager_name, past_len, future_len, present};
 ghost use Rattle.ssa_model.specs.definitions.PathMap.{size};
-ghost use Rattle.ssa_model.specs.definitions.BenchText.{parts};
+ghost use Rattle.ssa_model.specs.definitions.BenchText.{depths};
 ghost use Rattle.ssa_model.specs.definitions.Formats.{IsFile};
 ghost use Rattle.ssa_model.specs.definitions.RecordedBench.{recorded_text, recorded_values};
 ghost use Rattle.ssa_model.specs.definitions.Valid.{IsTable, IsValidState, IsValidBody};
@@ -49,6 +49,7 @@ use ssa_object::identity::{Identity, gives_managed_fields};
 use ssa_object::object::object_of_state;
 use ssa_path::part::Part;
 use ssa_path::path::Path;
+use ssa_reverse::depth::Depth;
 use ssa_schema::body_fault::BodyFault;
 use ssa_schema::schema::Schema;
 use ssa_turn::label::Label;
@@ -59,14 +60,12 @@ use ssa_typed::fault::TypedFault;
 use std::alloc::{AllocError, Global};
 use std::marker::Model;
 
-/// The most commands in the past.
-pub const MOST_PAST: usize = 1_000;
-
 /// An object of a schema, its managers, and the history of commands on it.
 #[derive(Drop)]
 pub struct Bench {
     schema: Schema,
     identity: Identity,
+    depth: Depth,
     timeline: Timeline,
 }
 
@@ -140,19 +139,26 @@ pub(crate) fn file_state(
 
 impl Bench {
     // The bench of one state.
-    fn with_lone_state(alloc: Global, schema: Schema, identity: Identity, first: State) -> Bench
+    fn with_lone_state(
+        alloc: Global,
+        schema: Schema,
+        identity: Identity,
+        depth: Depth,
+        first: State,
+    ) -> Bench
         requires { IsValidState schema.kind (state_view first) }
-        ensures { result ≡ lone_bench schema identity (state_view first) }
+        ensures { result ≡ lone_bench depth schema identity (state_view first) }
     {
         Bench {
             schema,
             identity,
+            depth,
             timeline: Timeline::new(alloc, first),
         }
     }
 
     /// The bench of an object file, with the managers whose entries `metadata.managedFields` gives
-    /// and no history.
+    /// and no history, that keeps up to 1,000 commands to be undone.
     ///
     /// What a server keeps in `metadata` (`uid`, `resourceVersion`, `generation`,
     /// `creationTimestamp`, `selfLink`) is dropped. Of several faults the first is told: no object,
@@ -161,6 +167,19 @@ impl Bench {
     pub fn new(alloc: Global, schema: Schema, object: Json) -> Result<Bench, Fault>
         ensures { IsMade result (bench_of readings schema (view object)) }
     {
+        Bench::with_depth(alloc, schema, object, Depth::greatest())
+    }
+
+    /// The same with another depth: so many commands are kept to be undone. A command more makes the bench
+    /// forget its oldest state.
+    pub fn with_depth(
+        alloc: Global,
+        schema: Schema,
+        object: Json,
+        depth: Depth,
+    ) -> Result<Bench, Fault>
+        ensures { IsMade result (bench_with readings depth schema (view object)) }
+    {
         if !object.is_object() {
             return Err(Fault::Body(BodyFault::WrongType(Vec::new(alloc))));
         }
@@ -168,23 +187,32 @@ impl Bench {
             return Err(Fault::Identity);
         };
         match file_state(alloc, &schema, object, identity.version()) {
-            Ok(state) => Ok(Bench::with_lone_state(alloc, schema, identity, state)),
+            Ok(state) => Ok(Bench::with_lone_state(alloc, schema, identity, depth, state)),
             Err(fault) => Err(fault),
         }
     }
 
-    /// The schema, the identity and the history: a bench keeps nothing else. Takes no memory.
-    pub fn into_parts(self) -> (Schema, Identity, Timeline)
+    /// The schema, the identity, the depth and the history: a bench keeps nothing else. Takes no memory.
+    pub fn into_parts(self) -> (Schema, Identity, Depth, Timeline)
         ensures schema { result.0 ≡ self.schema }
         ensures identity { result.1 ≡ self.identity }
-        ensures timeline { result.2 ≡ self.timeline }
+        ensures depth { result.2 ≡ self.depth }
+        ensures timeline { result.3 ≡ self.timeline }
     {
         let Bench {
             schema,
             identity,
+            depth,
             timeline,
         } = self;
-        (schema, identity, timeline)
+        (schema, identity, depth, timeline)
+    }
+
+    /// How many commands the bench keeps to be undone.
+    pub fn depth(&self) -> &Depth
+        ensures { result.now ≡ self.now.depth }
+    {
+        &self.depth
     }
 
     // The body of a command's object, or its first fault.
@@ -210,9 +238,6 @@ impl Bench {
         ensures valid { IfOk result (λ b. IsValidBody self.now.schema.kind b) }
         ensures named { IfOk result (λ b. is_manager_name who.now ≡ true) }
     {
-        if self.timeline.past_len() >= MOST_PAST {
-            return Err(Fault::HistoryFull);
-        }
         if !is_manager_name(who) {
             return Err(Fault::ManagerName);
         }
@@ -319,9 +344,6 @@ impl Bench {
     fn prepare_strip(&self, alloc: Global) -> Result<Prepared, Fault>
         ensures { IsPrepared self.now result (answer self.now strip) (codes "strip") }
     {
-        if self.timeline.past_len() >= MOST_PAST {
-            return Err(Fault::HistoryFull);
-        }
         let now = self.timeline.present();
         self.timeline.own_entries_are_read();
         self.timeline.own_paths_are_read();
@@ -332,8 +354,7 @@ impl Bench {
 
     /// What a command leads to, or why it is refused. The bench is as before.
     ///
-    /// Of several faults the first is told: `HistoryFull`, `ManagerName`, `NoSubresource`, then of the object: no
-    /// object, `Identity`, `ManagedFieldsGiven`, the fault of the schema, `TooManyPaths`; and then
+    /// Of several faults the first is told: `ManagerName`, `NoSubresource`, then of the object: no object, `Identity`, `ManagedFieldsGiven`, the fault of the schema, `TooManyPaths`; and then
     /// `Conflict`, `TooManyPaths`, `TooManyManagers`. A command that changes nothing is a step of the
     /// history like any other.
     pub fn prepare(&self, alloc: Global, command: Command) -> Result<Prepared, Fault>
@@ -357,7 +378,9 @@ impl Bench {
         }
     }
 
-    /// Carries out a command that [`prepare`](Bench::prepare) answered on this bench as it is now.
+    /// Carries out a command that [`prepare`](Bench::prepare) answered on this bench as it is now. Where the
+    /// bench then keeps more commands to be undone than its depth, its oldest state is forgotten; where
+    /// memory is refused, nothing is.
     pub fn commit(&mut self, prepared: Prepared) -> Result<Changed, AllocError>
         requires { IsPreparedOn self.old prepared }
         ensures ok { OnOk result (self.new ≡ next_bench self.old prepared) }
@@ -367,6 +390,7 @@ impl Bench {
         self.timeline.place_is_within();
         let Prepared { changed, step } = prepared;
         self.timeline.append(step)?;
+        self.timeline.hold(&self.depth);
         Ok(changed)
     }
 
@@ -468,25 +492,31 @@ impl Bench {
 
     // The text of the bench file.
     fn text(&self, alloc: Global) -> Result<Vec<u8>, SaveFault>
-        ensures ok { IfOk result (λ t. t.items ≡ recorded_text parts self.now) }
+        ensures ok { IfOk result (λ t. t.items ≡ recorded_text depths self.now) }
         ensures fits { IfOk result (λ t. length t.items ≤ most_bench_bytes) }
-        ensures of_program { OnOk result (All IsOfProgram (recorded_values parts self.now)) }
-        ensures refused { IfErr result (λ f. CannotHold f (recorded_text parts self.now)) }
+        ensures of_program { OnOk result (All IsOfProgram (recorded_values depths self.now)) }
+        ensures refused { IfErr result (λ f. CannotHold f (recorded_text depths self.now)) }
     {
-        recorded_text(alloc, &self.schema, &self.identity, &self.timeline)
+        recorded_text(
+            alloc,
+            &self.schema,
+            &self.identity,
+            &self.depth,
+            &self.timeline,
+        )
     }
 
     /// Writes the bench as a file, and hands it on. A file has at most
     /// [`MOST_FILE_BYTES`](ssa_lines::saving::MOST_FILE_BYTES) bytes; nothing is written before all of it
     /// stands in memory.
     pub fn save<S: Sink>(&self, alloc: Global, sink: &mut S) -> Result<(), SaveFault>
-        ensures ok { OnOk result (Appends (S.contents sink.old) (S.contents sink.new) (recorded_text parts self.now)) }
+        ensures ok { OnOk result (Appends (S.contents sink.old) (S.contents sink.new) (recorded_text depths self.now)) }
         ensures handed_on { OnOk result (S.is_handed_on sink.new ≡ true) }
-        ensures fits { OnOk result (length (recorded_text parts self.now) ≤ most_bench_bytes) }
+        ensures fits { OnOk result (length (recorded_text depths self.now) ≤ most_bench_bytes) }
 
         // What is written is the bench's file: `load` gives the bench back from it.
-        ensures file { OnOk result (IsFile readings parts (recorded_text parts self.now) self.now) }
-        ensures refused { IfErr result (NotSaved S.contents S.has_failed sink.old sink.new (recorded_text parts self.now)) }
+        ensures file { OnOk result (IsFile readings depths (recorded_text depths self.now) self.now) }
+        ensures refused { IfErr result (NotSaved S.contents S.has_failed sink.old sink.new (recorded_text depths self.now)) }
     {
         let text = self.text(alloc)?;
         write_text(sink, &text)?;

@@ -30,7 +30,8 @@ mod record_reading;
 mod state_taking;
 mod taking;
 
-pub use bench::{Bench, MOST_PAST};
+pub use bench::Bench;
 pub use prepared::{Changed, Counts, Prepared};
 pub use ssa_answers::change::Command;
 pub use ssa_answers::fault::Fault;
+pub use ssa_reverse::depth::Depth;

@@ -3,13 +3,12 @@ ghost use Rattle.std.specs.Prelude.{◌≡◌, ◌≤◌, ◌<◌, ◌+◌, true
 ghost use Rattle.ssa_model.specs.definitions.Answers.{lone_state};
 ghost use Rattle.ssa_model.specs.definitions.History.{appended, past_len};
 ghost use Rattle.ssa_model.specs.definitions.Json.{compact};
-ghost use Rattle.ssa_model.specs.definitions.Limits.{most_past};
 ghost use Rattle.ssa_model.specs.laws.BenchFiles.{schema_in};
 ghost use Rattle.ssa_model.specs.laws.LineByLine.{later_from, moves_from, preceded, rest_from, shown_in};
 ghost use Rattle.ssa_json.specs.Readings.{readings};
 ghost use Rattle.ssa_json.specs.View.{view};
 ghost use Rattle.ssa_json.specs.Writable.{IsOfProgram};
-ghost use Rattle.ssa_file.specs.Heads.{IsFew, counts_view, head_view, place_view};
+ghost use Rattle.ssa_file.specs.Heads.{IsFew, counts_view, head_depth, head_view, place_view};
 ghost use Rattle.ssa_file.specs.Recording.{format_view};
 ghost use Rattle.ssa_lines.specs.declared.loading.LoadFault.TheVariants.{Io};
 ghost use Rattle.ssa_bench.specs.Loading.{Loads, ReadsEnd, ReadsHead, ReadsLine, ReadsMoves, ReadsOn, ReadsPart, ReadsSteps};
@@ -78,6 +77,7 @@ fn read_shown<R: Source>(
     schema: Schema,
 ) -> Result<Bench, LoadFault>
     ensures lone { IfOk result (λ b. b.timeline ≡ lone_state b.timeline.first) }
+    ensures depth { IfOk result (λ b. b.depth ≡ head_depth head.now) }
     ensures read { ReadsPart (shown_in readings (head_view head.now) schema) (R.remaining reader.old) (R.remaining reader.new) room.old room.new result }
     ensures failed { result ≡ Err LoadFault.Io → R.has_failed reader.new ≡ true }
 {
@@ -94,7 +94,7 @@ fn read_steps<R: Source>(
     count: usize,
     number: &mut usize,
 ) -> Result<(), LoadFault>
-    requires few { past_len bench.old.timeline + count ≤ most_past }
+    requires few { past_len bench.old.timeline + count ≤ bench.old.depth }
     ensures read { ReadsSteps count (R.remaining reader.old) (R.remaining reader.new) room.old room.new bench.old bench.new result }
     ensures many { OnOk result (past_len bench.new.timeline ≡ past_len bench.old.timeline + count) }
     ensures within { OnOk result (past_len bench.new.timeline ≤ length bench.new.timeline.later) }
@@ -120,9 +120,10 @@ fn read_past<R: Source>(
     number: &mut usize,
 ) -> Result<(), LoadFault>
     requires first { past_len bench.old.timeline ≡ 0 }
-    requires few { length bench.old.timeline.later + count ≤ most_past }
+    requires few { length bench.old.timeline.later + count ≤ bench.old.depth }
     ensures read { ReadsMoves (format_view format) preceded count (R.remaining reader.old) (R.remaining reader.new) room.old room.new bench.old bench.new result }
     ensures many { OnOk result (length bench.new.timeline.later ≡ length bench.old.timeline.later + count) }
+    ensures depth { OnOk result (bench.new.depth ≡ bench.old.depth) }
     ensures failed { result ≡ Err LoadFault.Io → R.has_failed reader.new ≡ true }
 {
     for _ in 0..count {
@@ -143,7 +144,7 @@ fn read_future<R: Source>(
     count: usize,
     number: &mut usize,
 ) -> Result<(), LoadFault>
-    requires few { past_len bench.old.timeline + count ≤ most_past }
+    requires few { past_len bench.old.timeline + count ≤ bench.old.depth }
     ensures read { ReadsMoves (format_view format) appended count (R.remaining reader.old) (R.remaining reader.new) room.old room.new bench.old bench.new result }
     ensures many { OnOk result (past_len bench.new.timeline ≡ past_len bench.old.timeline + count) }
     ensures within { OnOk result (past_len bench.new.timeline ≤ length bench.new.timeline.later) }
@@ -180,7 +181,7 @@ fn read_later<R: Source>(
 ) -> Result<(), LoadFault>
     requires lone { bench.old.timeline ≡ lone_state bench.old.timeline.first }
     requires within { place.now.place < place.now.states }
-    requires few { place.now.states ≤ most_past + 1 }
+    requires few { place.now.states ≤ bench.old.depth + 1 }
     ensures read { ReadsOn (later_from readings (place_view place.now) bench.old) (R.remaining reader.old) (R.remaining reader.new) room.old bench.new result }
     ensures failed { result ≡ Err LoadFault.Io → R.has_failed reader.new ≡ true }
 {
@@ -201,7 +202,7 @@ fn read_history<R: Source>(
     number: &mut usize,
 ) -> Result<(), LoadFault>
     requires lone { bench.old.timeline ≡ lone_state bench.old.timeline.first }
-    requires few { counts.now.past + counts.now.future ≤ most_past }
+    requires few { counts.now.past + counts.now.future ≤ bench.old.depth }
     ensures read { ReadsOn (moves_from readings (counts_view counts.now) bench.old) (R.remaining reader.old) (R.remaining reader.new) room.old bench.new result }
     ensures failed { result ≡ Err LoadFault.Io → R.has_failed reader.new ≡ true }
 {
@@ -241,6 +242,7 @@ fn read_rest<R: Source>(
 ) -> Result<(), LoadFault>
     requires lone { bench.old.timeline ≡ lone_state bench.old.timeline.first }
     requires few { IsFew head.now }
+    requires depth { bench.old.depth ≡ head_depth head.now }
     ensures read { ReadsOn (rest_from readings (head_view head.now) bench.old) (R.remaining reader.old) (R.remaining reader.new) room.old bench.new result }
     ensures failed { result ≡ Err LoadFault.Io → R.has_failed reader.new ≡ true }
 {
@@ -253,17 +255,18 @@ fn read_rest<R: Source>(
 impl Bench {
     /// Takes a bench from its file: the text of the bench in one of the formats, and nothing else.
     ///
-    /// The first line says the format. In format 3, which [`save`](Bench::save) writes, and in format 2 the
+    /// The first line says the format. In formats 2 to 4, of which [`save`](Bench::save) writes the last, the
     /// present object stands first, then the records that lead back from it, and those that lead on; in
     /// format 1 all states stand there, from the first on, each as its object. In formats 1 and 2 no
-    /// command and no manager has a subresource. Reads line by line, and holds one line beside the bench
+    /// command and no manager has a subresource. In format 4 the first line says the depth of the bench;
+    /// in the others the bench has depth 1,000. Reads line by line, and holds one line beside the bench
     /// that it makes. Each record's room is made on the way, so that undo and redo take no memory. Of
     /// several faulty lines the first is told.
     /// `BenchText` is answered for a line that is not as it is written in the format: another spelling of
     /// a value, a schema, an object or an entry that is refused, a label that no command gives, what has
     /// not the shape of a record, in format 1 managers in another order than before, in formats 1 and 2 a
-    /// subresource; for a first line of no format; for a wrong count of lines; for more commands than can
-    /// be undone; and for more than [`MOST_FILE_BYTES`](ssa_lines::saving::MOST_FILE_BYTES) bytes.
+    /// subresource; for a first line of no format; for a wrong count of lines; for more commands than the
+    /// depth; and for more than [`MOST_FILE_BYTES`](ssa_lines::saving::MOST_FILE_BYTES) bytes.
     /// `RecordDoesNotFit` is answered for a record that is none from the state that it is told of to a
     /// valid one. Of what the commands of the history do nothing is asked: their states are taken as
     /// they stand there, or as the records lead to them.

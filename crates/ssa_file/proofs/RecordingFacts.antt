@@ -8,20 +8,20 @@ use Rattle.std.proofs.lemmas.Option.{get_or_from_slice_get, none-some, same_Some
 use Rattle.std.specs.List.{All}
 use Rattle.std.specs.Prelude.{nat_lt, if◌then◌else◌}
 use Rattle.ssa_model.specs.definitions.Json.{Text, Json}
-use Rattle.ssa_model.specs.definitions.BenchText.{Format, line, whole_object}
+use Rattle.ssa_model.specs.definitions.BenchText.{Format, depths, line, whole_object}
 use Rattle.ssa_model.specs.definitions.History.{Bench, Label, Step, Timeline, future_len, last_state, moved_to, past_len, present}
 use Rattle.ssa_model.specs.definitions.HistoryRecords.{kept_from, kept_to, state_at}
 use Rattle.ssa_model.specs.definitions.Kind.{Kind}
 use Rattle.ssa_model.specs.definitions.Objects.{Identity}
 use Rattle.ssa_model.specs.definitions.Operations.{State}
 use Rattle.ssa_model.specs.definitions.Record.{Record, record_of}
-use Rattle.ssa_model.specs.definitions.RecordedBench.{future_lines, past_lines, record_head, record_line}
+use Rattle.ssa_model.specs.definitions.RecordedBench.{future_lines, future_steps, past_lines, past_steps, record_head, record_line, recorded_text, recorded_values}
 use Rattle.ssa_model.specs.definitions.Schema.{Schema}
 use Rattle.ssa_model.specs.definitions.Takes.{Takes}
 use Rattle.ssa_model.specs.definitions.Valid.{AllValid, IsValidHistory, IsValidState, KeepsOrder, KeepsOrders}
 use Rattle.ssa_model.proofs.ValidTimelines.{state-valid}
 use Rattle.ssa_json.specs.Writable.{IsOfProgram}
-use Rattle.ssa_file.specs.Recording.{bench_with, kept_value, opening_values}
+use Rattle.ssa_file.specs.Recording.{bench_of, bench_with, future_values, kept_value, opening_values, past_values}
 use Rattle.ssa_lines.specs.Saving.{CannotHold}
 use Rattle.ssa_lines.specs.declared.saving.SaveFault.{SaveFault}
 use Rattle.ssa_lines.proofs.SavingFacts.{lines-refused}
@@ -53,12 +53,12 @@ kept-order t n s kept here =
     ]
 
 -- the record of a valid history takes its one state to the other
-pub kept-takes : (kind : Kind) (t : Timeline) (n : ℕ) (s : Step) (d : Record) → IsValidHistory kind t → slice_get t.later n ≡ Some s
+pub kept-takes : (kind : Kind) (t : Timeline) (n : ℕ) (s : Step) (d : Record) → (m : ℕ) × IsValidHistory kind m t → slice_get t.later n ≡ Some s
     → d ≡ record_of (kept_from t n) (kept_to t n) → Takes kind d (kept_from t n) (kept_to t n)
 kept-takes kind t n s d valid here is = record {
-  from = state-valid kind t (if nat_lt n t.place then n + 1 else n) valid.states;
-  to = state-valid kind t (if nat_lt n t.place then n else n + 1) valid.states;
-  order = kept-order t n s valid.order here;
+  from = state-valid kind t (if nat_lt n t.place then n + 1 else n) valid.1.states;
+  to = state-valid kind t (if nat_lt n t.place then n else n + 1) valid.1.states;
+  order = kept-order t n s valid.1.order here;
   is = is;
 }
 
@@ -173,15 +173,45 @@ all-made text whole left none made = sym (append-nil text) ∙ ap (λ js. text +
 -- ---- the text
 
 -- the three lines in front of the records
-pub opening-is : (f : Format) (schema : Schema) (identity : Identity) (t : Timeline) (none head_text schema_text : Text) (h s p : Json)
+pub opening-is : (f : Format) (schema : Schema) (identity : Identity) (n : ℕ) (t : Timeline) (none head_text schema_text : Text) (h s p : Json)
     → none ≡ [] → head_text ≡ none ++ line h → schema_text ≡ head_text ++ line s
-    → h ≡ record_head f (past_len t) (future_len t) → s ≡ schema.source → p ≡ whole_object (bench_with schema identity t) (present t)
-    → schema_text ++ (line p ++ []) ≡ flat_map line (opening_values f (bench_with schema identity t))
-opening-is f schema identity t none head_text schema_text h s p none-is head-is schema-is h-is s-is p-is =
+    → h ≡ record_head f n (past_len t) (future_len t) → s ≡ schema.source → p ≡ whole_object (bench_of schema identity n t) (present t)
+    → schema_text ++ (line p ++ []) ≡ flat_map line (opening_values f (bench_of schema identity n t))
+opening-is f schema identity n t none head_text schema_text h s p none-is head-is schema-is h-is s-is p-is =
     ap (λ x. x ++ (line p ++ [])) (schema-is ∙ ap (λ x. x ++ line s) (head-is ∙ ap (λ x. x ++ line h) none-is))
     ∙ append_assoc (line h) (line s) (line p ++ [])
     ∙ (λ i. line (h-is i) ++ (line (s-is i) ++ (line (p-is i) ++ [])))
 
 -- three lists of lines, one after the other
-pub in-three : (front back on : List Json) → flat_map line front ++ (flat_map line back ++ flat_map line on) ≡ flat_map line (front ++ (back ++ on))
+in-three : (front back on : List Json) → flat_map line front ++ (flat_map line back ++ flat_map line on) ≡ flat_map line (front ++ (back ++ on))
 in-three front back on = ap (λ x. flat_map line front ++ x) (sym (flat_map-append line back on)) ∙ sym (flat_map-append line front (back ++ on))
+
+-- the lines back tell nothing of the depth
+past_lines-any : (schema : Schema) (identity : Identity) (n : ℕ) (t : Timeline) (v : State) (ss : List Step)
+    → past_lines (bench_with schema identity t) v ss ≡ past_lines (bench_of schema identity n t) v ss
+past_lines-any schema identity n t v [] = refl
+past_lines-any schema identity n t v (s ∷ ss) =
+    ap (λ js. js ++ record_line (bench_with schema identity t) s.label s.state v ∷ []) (past_lines-any schema identity n t s.state ss)
+
+-- nor do those on
+future_lines-any : (schema : Schema) (identity : Identity) (n : ℕ) (t : Timeline) (v : State) (ss : List Step)
+    → future_lines (bench_with schema identity t) v ss ≡ future_lines (bench_of schema identity n t) v ss
+future_lines-any schema identity n t v [] = refl
+future_lines-any schema identity n t v (s ∷ ss) =
+    ap (λ js. record_line (bench_with schema identity t) s.label v s.state ∷ js) (future_lines-any schema identity n t s.state ss)
+
+module _ (schema : Schema) (identity : Identity) (n : ℕ) (t : Timeline) where
+  -- the opening, and the lines back and on, are all lines of the bench
+  pub values-are : opening_values depths (bench_of schema identity n t)
+      ++ (past_values (bench_with schema identity t) ++ future_values (bench_with schema identity t)) ≡ recorded_values depths (bench_of schema identity n t)
+  values-are =
+      λ i. opening_values depths (bench_of schema identity n t)
+      ++ (past_lines-any schema identity n t t.first (past_steps t) i ++ future_lines-any schema identity n t (present t) (future_steps t) i)
+
+  -- so their texts are the text of its file
+  pub texts-are : flat_map line (opening_values depths (bench_of schema identity n t))
+      ++ (flat_map line (past_values (bench_with schema identity t)) ++ flat_map line (future_values (bench_with schema identity t)))
+      ≡ recorded_text depths (bench_of schema identity n t)
+  texts-are =
+      in-three (opening_values depths (bench_of schema identity n t)) (past_values (bench_with schema identity t)) (future_values (bench_with schema identity t))
+      ∙ ap (flat_map line) values-are

@@ -1,22 +1,23 @@
 //! The first line of a bench file: in which format the file is, and the numbers that stand there.
-ghost use Rattle.std.specs.Prelude.{◌≡◌, ◌≤◌, ◌<◌, ◌+◌, ◌^◌, IfOk, IfSome, option_map};
+ghost use Rattle.std.specs.Prelude.{◌≡◌, ◌≤◌, ◌<◌, ◌+◌, ◌^◌, ◌&&◌, IfOk, IfSome, nat_le, option_map};
 ghost use Rattle.ssa_model.specs.definitions.BenchText.{head_of};
 ghost use Rattle.ssa_model.specs.definitions.Json.{member_at};
 ghost use Rattle.ssa_model.specs.definitions.Limits.{most_past};
-ghost use Rattle.ssa_model.specs.laws.BenchFiles.{head_in, is_written_as, number_in};
+ghost use Rattle.ssa_model.specs.laws.BenchFiles.{given_if, head_in, is_written_as, number_in};
 ghost use Rattle.ssa_model.specs.laws.Formats.{file_head};
 ghost use Rattle.ssa_model.specs.laws.RecordedBenches.{counts_in, format_in, record_format};
 ghost use Rattle.ssa_json.specs.View.{view};
-ghost use Rattle.ssa_file.specs.Heads.{IsFew, counts_view, head_view, place_view};
+ghost use Rattle.ssa_file.specs.Heads.{IsFew, counts_view, depth_within, head_view, place_view};
 ghost use Rattle.ssa_file.specs.Recording.{format_view};
 
 use crate::recording::{RecordFormat, put_number, record_head};
 use ssa_json::value::{Json, Scalar};
 use ssa_lines::written::is_text_of;
 use ssa_members::Members;
+use ssa_reverse::depth::Depth;
 use std::alloc::{AllocError, Global};
 
-// The most commands of a bench file.
+// The most commands of a bench file of whole states.
 const MOST_COMMANDS: usize = 1_000;
 
 /// The place of the present state in a bench file of whole states, and how many states it has.
@@ -26,10 +27,12 @@ pub struct StatePlace {
     pub states: usize,
 }
 
-/// The format of a bench file of records, and how many commands it has: those that can be undone, and those that can be redone.
+/// The format of a bench file of records, the depth of its bench, and how many commands it has: those that can be undone, and
+/// those that can be redone.
 #[derive(Clone, Copy, Debug, PartialEq, Eq)]
 pub struct RecordCounts {
     pub format: RecordFormat,
+    pub depth: Depth,
     pub past: usize,
     pub future: usize,
 }
@@ -39,7 +42,7 @@ pub struct RecordCounts {
 pub enum FileHead {
     /// Format 1: all states, each as its object.
     States(StatePlace),
-    /// Formats 2 and 3: the present object, and records that lead to the other states.
+    /// Formats 2 to 4: the present object, and records that lead to the other states.
     Records(RecordCounts),
 }
 
@@ -105,6 +108,7 @@ fn format_of(number: usize) -> Option<RecordFormat>
     match number {
         2 => Some(RecordFormat::Records),
         3 => Some(RecordFormat::Parts),
+        4 => Some(RecordFormat::Depths),
         _ => None,
     }
 }
@@ -116,12 +120,35 @@ fn format_in(value: &Json) -> Option<RecordFormat>
     format_of(number_in(value, "format")?)
 }
 
-/// The format and the counts that the value of a first line says, where it is written so, and no more than 1,000 in all.
+// The depth of this number, where a bench may be so deep.
+fn depth_of(number: usize) -> Option<Depth>
+    ensures { result ≡ given_if (nat_le 1 number && nat_le number most_past) number }
+{
+    let number = u16::try_from(number).ok()?;
+    Depth::new(number)
+}
+
+// The depth that a first line of the format says, where a bench may be so deep: the greatest in a format that does not tell
+// of it.
+fn depth_in(value: &Json, format: RecordFormat) -> Option<Depth>
+    ensures { result ≡ depth_within (format_view format) (view value.now) }
+{
+    match format {
+        RecordFormat::Records | RecordFormat::Parts => Some(Depth::greatest()),
+        RecordFormat::Depths => depth_of(number_in(value, "depth")?),
+    }
+}
+
+/// The format, the depth and the counts that the value of a first line says, where it is written so: no more commands in all
+/// than the depth, which is 1,000 in formats that do not tell of it.
 pub fn record_counts(alloc: Global, value: &Json) -> Result<Option<RecordCounts>, AllocError>
     ensures is { IfOk result (λ o. option_map counts_view o ≡ counts_in (view value.now)) }
-    ensures few { IfOk result (λ o. IfSome o (λ c. c.past + c.future ≤ most_past)) }
+    ensures few { IfOk result (λ o. IfSome o (λ c. c.past + c.future ≤ c.depth)) }
 {
     let Some(format) = format_in(value) else {
+        return Ok(None);
+    };
+    let Some(depth) = depth_in(value, format) else {
         return Ok(None);
     };
     let Some(past) = number_in(value, "past") else {
@@ -130,13 +157,14 @@ pub fn record_counts(alloc: Global, value: &Json) -> Result<Option<RecordCounts>
     let Some(future) = number_in(value, "future") else {
         return Ok(None);
     };
-    if past + future > MOST_COMMANDS {
+    if past + future > depth.number() {
         return Ok(None);
     }
-    let written = record_head(alloc, format, past, future)?;
+    let written = record_head(alloc, format, &depth, past, future)?;
     if is_written_as(alloc, value, &written)? {
         Ok(Some(RecordCounts {
             format,
+            depth,
             past,
             future,
         }))

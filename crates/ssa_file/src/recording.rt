@@ -1,7 +1,7 @@
 //! The text of a bench file of records.
-ghost use Rattle.std.specs.Prelude.{◌≡◌, ◌≤◌, ◌<◌, ◌^◌, ◌++◌, Some, slice_get, IfErr, IfOk, OnOk, flat_map, length};
+ghost use Rattle.std.specs.Prelude.{◌≡◌, ◌≤◌, ◌<◌, ◌^◌, ◌++◌, ℕ, Some, slice_get, IfErr, IfOk, OnOk, flat_map, length};
 ghost use Rattle.std.specs.List.{All};
-ghost use Rattle.ssa_model.specs.definitions.BenchText.{format_number, line, parts};
+ghost use Rattle.ssa_model.specs.definitions.BenchText.{depths, format_number, line};
 ghost use Rattle.ssa_model.specs.definitions.History.{Step, Timeline};
 ghost use Rattle.ssa_model.specs.definitions.Json.{compact};
 ghost use Rattle.ssa_model.specs.definitions.Limits.{most_bench_bytes};
@@ -16,7 +16,7 @@ ghost use Rattle.ssa_json.specs.Writable.{IsOfProgram};
 ghost use Rattle.ssa_lines.specs.Saving.{CannotHold};
 ghost use Rattle.ssa_turn.specs.Histories.{label_view};
 ghost use Rattle.ssa_turn_state.specs.States.{HasStateRoom, state_steps};
-ghost use Rattle.ssa_file.specs.Recording.{bench_with, format_view, future_values, kept_value, opening_values, past_values};
+ghost use Rattle.ssa_file.specs.Recording.{bench_of, bench_with, format_view, future_values, kept_value, opening_values, past_values};
 
 use ssa_json::members::put_member;
 use ssa_json::value::{Json, Scalar};
@@ -25,6 +25,7 @@ use ssa_lines::saving::{SaveFault, end_line, push_line};
 use ssa_members::Members;
 use ssa_object::identity::Identity;
 use ssa_object::object::object_of_state;
+use ssa_reverse::depth::Depth;
 use ssa_schema::schema::Schema;
 use ssa_turn::label::Label;
 use ssa_turn::timeline::Timeline;
@@ -52,6 +53,8 @@ pub enum RecordFormat {
     Records,
     /// Managers may act through subresources.
     Parts,
+    /// The same, and the bench keeps as many commands as the first line says.
+    Depths,
 }
 
 impl RecordFormat {
@@ -62,25 +65,31 @@ impl RecordFormat {
         match self {
             RecordFormat::Records => 2,
             RecordFormat::Parts => 3,
+            RecordFormat::Depths => 4,
         }
     }
 }
 
-/// The value of the first line: the format, and how many commands can be undone and redone.
+/// The value of the first line: the format, how many commands can be undone and redone, and the depth where the format tells of
+/// it.
 pub fn record_head(
     alloc: Global,
     format: RecordFormat,
+    depth: &Depth,
     past: usize,
     future: usize,
 ) -> Result<Json, AllocError>
     requires past { past < 2 ^ 63 }
     requires future { future < 2 ^ 63 }
-    ensures { IfOk result (λ v. view v ≡ record_head (format_view format) past future) }
+    ensures { IfOk result (λ v. view v ≡ record_head (format_view format) depth.now past future) }
 {
     let mut members = Members::new(alloc);
     put_number(alloc, &mut members, "past", past)?;
     put_number(alloc, &mut members, "future", future)?;
     put_number(alloc, &mut members, "format", format.number())?;
+    if let RecordFormat::Depths = format {
+        put_number(alloc, &mut members, "depth", depth.number())?;
+    }
     Ok(Json::Object(members))
 }
 
@@ -124,7 +133,7 @@ fn push_record(
 ) -> Result<(), SaveFault>
     requires few { length text.old.items ≤ most_bench_bytes }
     requires within { n < length history.now.later }
-    requires valid { IsValidHistory schema.now.kind history.now }
+    requires valid { (n : ℕ) × IsValidHistory schema.now.kind n history.now }
     ensures ok { OnOk result ((s : Step) → slice_get history.now.later n ≡ Some s → text.new.items ≡ text.old.items ++ line (kept_value schema.now identity.now history.now n s)) }
     ensures fits { OnOk result (length text.new.items ≤ most_bench_bytes) }
     ensures of_program { OnOk result ((s : Step) → slice_get history.now.later n ≡ Some s → IsOfProgram (kept_value schema.now identity.now history.now n s)) }
@@ -148,7 +157,7 @@ fn push_past(
     history: &Timeline,
 ) -> Result<(), SaveFault>
     requires few { length text.old.items ≤ most_bench_bytes }
-    requires valid { IsValidHistory schema.now.kind history.now }
+    requires valid { (n : ℕ) × IsValidHistory schema.now.kind n history.now }
     ensures ok { OnOk result (text.new.items ≡ text.old.items ++ flat_map line (past_values (bench_with schema.now identity.now history.now))) }
     ensures fits { OnOk result (length text.new.items ≤ most_bench_bytes) }
     ensures of_program { OnOk result (All IsOfProgram (past_values (bench_with schema.now identity.now history.now))) }
@@ -171,7 +180,7 @@ fn push_future(
     history: &Timeline,
 ) -> Result<(), SaveFault>
     requires few { length text.old.items ≤ most_bench_bytes }
-    requires valid { IsValidHistory schema.now.kind history.now }
+    requires valid { (n : ℕ) × IsValidHistory schema.now.kind n history.now }
     ensures ok { OnOk result (text.new.items ≡ text.old.items ++ flat_map line (future_values (bench_with schema.now identity.now history.now))) }
     ensures fits { OnOk result (length text.new.items ≤ most_bench_bytes) }
     ensures of_program { OnOk result (All IsOfProgram (future_values (bench_with schema.now identity.now history.now))) }
@@ -190,17 +199,19 @@ fn opening_text(
     alloc: Global,
     schema: &Schema,
     identity: &Identity,
+    depth: &Depth,
     history: &Timeline,
 ) -> Result<Vec<u8>, SaveFault>
-    requires valid { IsValidHistory schema.now.kind history.now }
-    ensures ok { IfOk result (λ t. t.items ≡ flat_map line (opening_values parts (bench_with schema.now identity.now history.now))) }
+    requires valid { IsValidHistory schema.now.kind depth.now history.now }
+    ensures ok { IfOk result (λ t. t.items ≡ flat_map line (opening_values depths (bench_of schema.now identity.now depth.now history.now))) }
     ensures fits { IfOk result (λ t. length t.items ≤ most_bench_bytes) }
-    ensures of_program { OnOk result (All IsOfProgram (opening_values parts (bench_with schema.now identity.now history.now))) }
-    ensures refused { IfErr result (λ f. CannotHold f (flat_map line (opening_values parts (bench_with schema.now identity.now history.now)))) }
+    ensures of_program { OnOk result (All IsOfProgram (opening_values depths (bench_of schema.now identity.now depth.now history.now))) }
+    ensures refused { IfErr result (λ f. CannotHold f (flat_map line (opening_values depths (bench_of schema.now identity.now depth.now history.now)))) }
 {
     let head = record_head(
         alloc,
-        RecordFormat::Parts,
+        RecordFormat::Depths,
+        depth,
         history.past_len(),
         history.future_len(),
     )?;
@@ -212,20 +223,21 @@ fn opening_text(
     Ok(text)
 }
 
-/// The text of the bench file of a history, which is only read: in the format of records with subresources.
+/// The text of the bench file of a history, which is only read: in the format of records with subresources and the depth.
 pub fn recorded_text(
     alloc: Global,
     schema: &Schema,
     identity: &Identity,
+    depth: &Depth,
     history: &Timeline,
 ) -> Result<Vec<u8>, SaveFault>
-    requires valid { IsValidHistory schema.now.kind history.now }
-    ensures ok { IfOk result (λ t. t.items ≡ recorded_text parts (bench_with schema.now identity.now history.now)) }
+    requires valid { IsValidHistory schema.now.kind depth.now history.now }
+    ensures ok { IfOk result (λ t. t.items ≡ recorded_text depths (bench_of schema.now identity.now depth.now history.now)) }
     ensures fits { IfOk result (λ t. length t.items ≤ most_bench_bytes) }
-    ensures of_program { OnOk result (All IsOfProgram (recorded_values parts (bench_with schema.now identity.now history.now))) }
-    ensures refused { IfErr result (λ f. CannotHold f (recorded_text parts (bench_with schema.now identity.now history.now))) }
+    ensures of_program { OnOk result (All IsOfProgram (recorded_values depths (bench_of schema.now identity.now depth.now history.now))) }
+    ensures refused { IfErr result (λ f. CannotHold f (recorded_text depths (bench_of schema.now identity.now depth.now history.now))) }
 {
-    let mut text = opening_text(alloc, schema, identity, history)?;
+    let mut text = opening_text(alloc, schema, identity, depth, history)?;
     push_past(alloc, &mut text, schema, identity, history)?;
     push_future(alloc, &mut text, schema, identity, history)?;
     Ok(text)

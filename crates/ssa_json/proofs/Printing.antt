@@ -101,7 +101,7 @@ scalar-text (truth true) narrow = refl
 scalar-text (truth false) narrow = refl
 
 mutual
-  compact_text-data_of : (v : model.Json) → is_narrow v ≡ true → written.compact_text (data_of v) ≡ compact v
+  pub compact_text-data_of : (v : model.Json) → is_narrow v ≡ true → written.compact_text (data_of v) ≡ compact v
   compact_text-data_of (scalar s) narrow = scalar-text s narrow
   compact_text-data_of (list vs) narrow = ap (λ t. 91 ∷ t) (items-text false vs narrow)
   compact_text-data_of (object ms) narrow = ap (λ t. 123 ∷ t) (members-text false ms narrow)

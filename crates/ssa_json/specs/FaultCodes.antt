@@ -36,7 +36,6 @@ code_view code.Conflict = model.conflict
 code_view code.Identity = model.identity
 code_view code.ManagedFieldsGiven = model.managed_fields_given
 code_view code.ManagerName = model.manager_name
-code_view code.HistoryFull = model.history_full
 code_view code.NothingToUndo = model.nothing_to_undo
 code_view code.NothingToRedo = model.nothing_to_redo
 code_view code.CommandShape = model.command_shape

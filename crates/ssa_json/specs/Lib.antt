@@ -11,3 +11,4 @@ pub mod Lookups
 pub mod Parts
 pub mod PutInTurn
 pub mod MemberTexts
+pub mod Sent

@@ -65,8 +65,6 @@ pub enum FaultCode {
     ManagedFieldsGiven,
     /// A manager's name is outside the limits.
     ManagerName,
-    /// The history is full.
-    HistoryFull,
     /// The past is empty.
     NothingToUndo,
     /// The future is empty.
@@ -100,7 +98,8 @@ impl FaultCode {
         self.row().1
     }
 
-    // The number and the name: the one table of them.
+    // The number and the name: the one table of them. 63 is the number of no fault any more, and stays unused: a history
+    // that is full forgets its oldest state.
     fn row(self) -> (&'static str, &'static str)
         ensures number { result.0.now ≡ compact (number_json (number_of (code_view self))) }
         ensures name { result.1.now ≡ name_of (code_view self) }
@@ -134,7 +133,6 @@ impl FaultCode {
             FaultCode::Identity => ("60", "Identity"),
             FaultCode::ManagedFieldsGiven => ("61", "ManagedFieldsGiven"),
             FaultCode::ManagerName => ("62", "ManagerName"),
-            FaultCode::HistoryFull => ("63", "HistoryFull"),
             FaultCode::NothingToUndo => ("64", "NothingToUndo"),
             FaultCode::NothingToRedo => ("65", "NothingToRedo"),
             FaultCode::CommandShape => ("66", "CommandShape"),

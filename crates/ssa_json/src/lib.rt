@@ -29,6 +29,7 @@ pub mod reader;
 pub mod reading_room;
 mod retrying;
 mod same;
+mod sent;
 pub mod sink;
 pub mod source;
 mod straight;

@@ -1,4 +1,5 @@
-//! Prints JSON values.
+//! Prints JSON values: a text of their own by `serde_json`, and behind a text that is there, to which that library appends nothing,
+//! by a writer with the same contract.
 ghost use Rattle.std.specs.Prelude.{◌≡◌, ◌≤◌, [], ◌∷◌, ◌++◌, Ok, IfOk, OnOk, string_bytes, false, true};
 ghost use Rattle.std.specs.Str.{is_utf8};
 ghost use Rattle.ssa_model.specs.definitions.Entries.{text_json};
@@ -16,9 +17,6 @@ use itoa::Buffer;
 use ssa_members::Members;
 use std::alloc::{AllocError, Global};
 
-// The bytes that a text has room for from the start.
-const FIRST_ROOM: usize = 128;
-
 impl Json {
     /// The one compact spelling of the value: no spaces, names in the order of their bytes, whole
     /// numbers in decimal, and only the escapes that RFC 8259 demands, the short ones first. Where
@@ -29,9 +27,10 @@ impl Json {
             → json_reading text.items ≡ Ok (view self.now)) }
         ensures of_program { OnOk result (IsOfProgram (view self.now)) }
     {
-        let mut text = Vec::with_capacity(alloc, FIRST_ROOM)?;
-        self.push_text(&mut text)?;
-        Ok(text)
+        match serde_json::to_vec(alloc, self) {
+            Ok(text) => Ok(text),
+            Err(_) => Err(AllocError),
+        }
     }
 
     /// Appends the compact spelling to a text. It takes no memory but the text's; where that runs out, part of the spelling

@@ -86,6 +86,7 @@ second_type_is_deep =
         steps = own.steps;
         order = own.order;
         place = own.place;
+        deep = own.deep;
         few = own.few;
       },
       omega arith,

@@ -1,24 +1,24 @@
 -- Answers keep a history of commands carried out, and the present state is what they make.
-use Rattle.std.proofs.Common.{◌≡◌, ℕ, suc, zero, ◌+◌, ◌-◌, ◌≤◌, ◌==◌, List, [], ◌∷◌, ◌++◌, length, take, Bool, true, false, not, refl, ap, ◌∙◌, arith, length-append, length-take, nat_le, sym}
+use Rattle.std.proofs.Common.{◌≡◌, ℕ, suc, zero, ◌+◌, ◌-◌, ◌≤◌, ◌==◌, List, [], ◌∷◌, ◌++◌, length, take, drop, nat_lt, append-nil, Bool, true, false, not, refl, ap, ◌∙◌, arith, length-append, length-take, nat_le, sym}
 use Rattle.std.proofs.lemmas.Bool.Decides.{nat_tests}
 use Rattle.std.specs.Prelude.{Result, Ok, Err, if◌then◌else◌, codes, None, Some, option_map}
-use Rattle.ssa_model.specs.definitions.Limits.{most_past}
 use Rattle.ssa_model.specs.definitions.Json.{Text, Json}
 use Rattle.ssa_model.specs.definitions.Body.{Body}
 use Rattle.ssa_model.specs.definitions.Parts.{Actor}
 use Rattle.ssa_model.specs.definitions.Operations.{State, Refusal}
-use Rattle.ssa_model.specs.definitions.History.{Step, Bench, present, past_len, future_len, last_state, moved_to, with_timeline, is_manager_name}
-use Rattle.ssa_model.specs.definitions.Answers.{Answer, Reply, moved, shown, owned_by, logged, refused, history_full, manager_name, no_subresource, has_part, nothing_to_undo, nothing_to_redo, Fault, fault, Command, apply, update, strip, undo, redo, show, owners, log, answer, accept, accept_or_refuse, with_body, apply_answer, command_body}
-use Rattle.ssa_model.specs.definitions.Effect.{is_accepted, body_in, deed_of, Deed, applying, updating, stripping, label_of, carried_out, and_then, all_carried_out, AreSteps, IsHistory, KeepsHistory, PresentIsCarriedOut, HistoriesAreCarriedOut}
+use Rattle.ssa_model.specs.definitions.History.{Step, Timeline, Bench, present, past_len, future_len, last_state, appended, forgotten, moved_to, with_timeline, is_manager_name}
+use Rattle.ssa_model.specs.definitions.Answers.{Answer, Reply, moved, shown, owned_by, logged, refused, manager_name, no_subresource, has_part, nothing_to_undo, nothing_to_redo, Fault, fault, Command, apply, update, strip, undo, redo, show, owners, log, answer, accept, accept_or_refuse, with_body, apply_answer, command_body}
+use Rattle.ssa_model.proofs.Answered.{answers-hold}
+use Rattle.ssa_model.specs.definitions.Effect.{Deeds, with_deed, deeds_to, is_accepted, body_in, deed_of, Deed, applying, updating, stripping, label_of, carried_out, and_then, all_carried_out, AreSteps, IsHistory, KeepsHistory, PresentIsCarriedOut, HistoriesAreCarriedOut}
 
-steps-take : (n : ℕ) (s : State) (ds : List Deed) (ts : List Step) → AreSteps s ds ts → AreSteps s (take n ds) (take n ts)
+pub steps-take : (n : ℕ) (s : State) (ds : List Deed) (ts : List Step) → AreSteps s ds ts → AreSteps s (take n ds) (take n ts)
 steps-take zero s ds ts h = tt
 steps-take (suc n) s [] [] h = tt
 steps-take (suc n) s [] (t ∷ ts) h = h
 steps-take (suc n) s (d ∷ ds) [] h = h
 steps-take (suc n) s (d ∷ ds) (t ∷ ts) h = (h.0, h.1, steps-take n t.state ds ts h.2)
 
-steps-push : (s : State) (ds : List Deed) (ts : List Step) (d : Deed) (t : Step) → AreSteps s ds ts
+pub steps-push : (s : State) (ds : List Deed) (ts : List Step) (d : Deed) (t : Step) → AreSteps s ds ts
     → t.label ≡ label_of d → carried_out (last_state s ts) d ≡ Ok t.state → AreSteps s (ds ++ d ∷ []) (ts ++ t ∷ [])
 steps-push s [] [] d t h l e = (l, e, tt)
 steps-push s [] (u ∷ ts) d t h l e = absurd h
@@ -31,91 +31,87 @@ all_carried_out-steps s [] (t ∷ ts) h = absurd h
 all_carried_out-steps s (d ∷ ds) [] h = absurd h
 all_carried_out-steps s (d ∷ ds) (t ∷ ts) h = ap (λ r. and_then r (λ u. all_carried_out u ds)) h.1 ∙ all_carried_out-steps t.state ds ts h.2
 
-present_is : PresentIsCarriedOut
-present_is t h = all_carried_out-steps t.first (take t.place h.deeds) (take t.place t.later) (steps-take t.place t.first h.deeds t.later h.steps)
+-- deeds are carried out by one part of them after the other
+all_carried_out-append : (s t : State) (ds es : List Deed) → all_carried_out s ds ≡ Ok t → all_carried_out s (ds ++ es) ≡ all_carried_out t es
+all_carried_out-append s t [] es h = ap (λ r. and_then r (λ u. all_carried_out u es)) h
+all_carried_out-append s t (d ∷ ds) es h =
+    elim (carried_out s d) as (λ r. and_then r (λ u. all_carried_out u ds) ≡ Ok t → and_then r (λ u. all_carried_out u (ds ++ es)) ≡ all_carried_out t es)
+    [ Ok u ↦ λ h. all_carried_out-append u t ds es h | Err f ↦ λ h. absurd (refusal f h) ] h
+  where
+    refusal : (f : Refusal) → ◌≡◌ {A = Result State Refusal} (Err f) (Ok t) → ⊥
+    refusal f h = cc
 
-longer : (n : ℕ) (ts : List Step) (t : Step) → n ≤ length ts → n + 1 ≤ length (take n ts ++ t ∷ [])
+present_is : PresentIsCarriedOut
+present_is origin t h =
+    all_carried_out-append origin t.first h.deeds.forgotten (take t.place h.deeds.kept) h.first
+    ∙ all_carried_out-steps t.first (take t.place h.deeds.kept) (take t.place t.later) (steps-take t.place t.first h.deeds.kept t.later h.steps)
+
+-- a history of deeds, where they are told
+record IsHistoryOf (origin : State) (t : Timeline) (ds : Deeds) : Type 0 where
+  pub first : all_carried_out origin ds.forgotten ≡ Ok t.first
+  pub steps : AreSteps t.first ds.kept t.later
+  pub place : t.place ≤ length t.later
+
+-- without its oldest state, a history is that of the deeds of which the first is forgotten
+forget-one : (origin first : State) (later : List Step) (place : ℕ) (gone kept : List Deed)
+    → IsHistoryOf origin (record { first = first; later = later; place = place }) (record { forgotten = gone; kept = kept })
+    → IsHistoryOf origin (forgotten (record { first = first; later = later; place = place })) (record { forgotten = gone ++ take 1 kept; kept = drop 1 kept })
+forget-one origin first [] place gone [] h =
+    record { first = ap (all_carried_out origin) (append-nil gone) ∙ h.first; steps = tt; place = h.place }
+forget-one origin first [] place gone (d ∷ ds) h = absurd h.steps
+forget-one origin first (t ∷ ts) place gone [] h = absurd h.steps
+forget-one origin first (t ∷ ts) place gone (d ∷ ds) h = record {
+  first = all_carried_out-append origin first gone (d ∷ []) h.first ∙ ap (λ r. and_then r (λ u. Ok u)) h.steps.1;
+  steps = h.steps.2;
+  place = less place (length ts) h.place;
+}
+  where
+    less : (n m : ℕ) → n ≤ suc m → n - 1 ≤ m
+    less n m le = omega (arith, le)
+
+pub longer : (n : ℕ) (ts : List Step) (t : Step) → n ≤ length ts → n + 1 ≤ length (take n ts ++ t ∷ [])
 longer n ts t h = grind (arith, length-append (take n ts) (t ∷ []), length-take n ts)
 
-module _ (bench : Bench) (h : IsHistory bench.timeline) where
+module _ (origin : State) (bench : Bench) (h : IsHistory origin bench.timeline) where
   abbrev Keeps : Command → Answer → Type 0
-  Keeps c a = KeepsHistory bench c h a
+  Keeps c a = KeepsHistory origin bench c h a
 
   same : (c : Command) (reply : Reply) → is_accepted reply ≡ false → Keeps c (reply, bench)
-  same c reply refused_is = record { first = refl; history = h; deeds = ap (λ b. deeds_by c b) (sym refused_is) }
+  same c reply refused_is = record { history = h; deeds = ap (λ b. deeds_by c b) (sym refused_is) }
     where
-      deeds_by : Command → Bool → List Deed
-      deeds_by c b = if b then elim (deed_of bench c) [ None ↦ h.deeds | Some d ↦ take bench.timeline.place h.deeds ++ d ∷ [] ] else h.deeds
+      deeds_by : Command → Bool → Deeds
+      deeds_by c b = if b then elim (deed_of bench c) [ None ↦ h.deeds | Some d ↦ with_deed bench.depth bench.timeline.place h.deeds d ] else h.deeds
 
   accepted : (c : Command) (word : Text) (d : Deed) (s : State) → deed_of bench c ≡ Some d → carried_out (present bench.timeline) d ≡ Ok s
       → Keeps c (accept bench word (label_of d) s)
   accepted c word d s own e =
       let t = bench.timeline in
+      let kept = take t.place h.deeds.kept ++ d ∷ [] in
+      let whole : Deeds = record { forgotten = h.deeds.forgotten; kept = kept } in
+      let fewer : Deeds = record { forgotten = h.deeds.forgotten ++ take 1 kept; kept = drop 1 kept } in
       let step : Step = record { label = label_of d; state = s } in
+      let more = appended t (label_of d) s in
+      let long : IsHistoryOf origin more whole = record {
+        first = h.first;
+        steps = steps-push t.first (take t.place h.deeds.kept) (take t.place t.later) d step (steps-take t.place t.first h.deeds.kept t.later h.steps) refl e;
+        place = longer t.place t.later step h.place;
+      } in
+      let led : (b : Bool) → IsHistoryOf origin (if b then forgotten more else more) (if b then fewer else whole) =
+      λ b. elim b as (λ b. IsHistoryOf origin (if b then forgotten more else more) (if b then fewer else whole))
+      [ true ↦ forget-one origin t.first (take t.place t.later ++ step ∷ []) (t.place + 1) h.deeds.forgotten kept long | false ↦ long ] in
+      let made = led (nat_lt bench.depth (t.place + 1)) in
       record {
-        first = refl;
-        history = record {
-          deeds = take t.place h.deeds ++ d ∷ [];
-          steps = steps-push t.first (take t.place h.deeds) (take t.place t.later) d step (steps-take t.place t.first h.deeds t.later h.steps) refl e;
-          place = longer t.place t.later step h.place;
-        };
-        deeds = ap (λ o. elim o [ None ↦ h.deeds | Some e ↦ take t.place h.deeds ++ e ∷ [] ]) (sym own);
+        history = record { deeds = with_deed bench.depth t.place h.deeds d; first = made.first; steps = made.steps; place = made.place };
+        deeds = ap (λ o. elim o [ None ↦ h.deeds | Some e ↦ with_deed bench.depth t.place h.deeds e ]) (sym own);
       }
-
-  given : (c : Command) (word : Text) (d : Deed) (r : Result State Refusal) → deed_of bench c ≡ Some d → carried_out (present bench.timeline) d ≡ r
-      → Keeps c (accept_or_refuse bench word (label_of d) r)
-  given c word d (Ok s) own e = accepted c word d s own e
-  given c word d (Err r) own e = same c (fault (refused r)) refl
-
-  one_of : (c : Command) (b : Bool) (x y : Answer) → Keeps c x → Keeps c y → Keeps c (if b then x else y)
-  one_of c true x y p q = p
-  one_of c false x y p q = q
-
-  of_body : (c : Command) (r : Result Body Fault) (go : Body → Answer) → ((body : Body) → r ≡ Ok body → Keeps c (go body))
-      → Keeps c (elim r [ Ok body ↦ go body | Err f ↦ (fault f, bench) ])
-  of_body c (Ok body) go p = p body refl
-  of_body c (Err f) go p = same c (fault f) refl
-
-  with_body-keeps : (c : Command) (who : Actor) (v : Json) (go : Body → Answer) → ((body : Body) → command_body bench v ≡ Ok body → Keeps c (go body))
-      → Keeps c (with_body bench who v go)
-  with_body-keeps c who v go p =
-      one_of c (nat_le most_past (past_len bench.timeline)) _ _ (same c (fault history_full) refl)
-      (one_of c (not (is_manager_name who.name)) _ _ (same c (fault manager_name) refl)
-      (one_of c (not (has_part bench.schema.kind who.part)) _ _ (same c (fault no_subresource) refl) (of_body c (command_body bench v) go p)))
 
   goes : (c : Command) (word : Text) (past future n : ℕ) → n ≤ length bench.timeline.later
       → Keeps c (moved word past future, with_timeline bench (moved_to bench.timeline n))
-  goes c word past future n fits = record { first = refl; history = record { deeds = h.deeds; steps = h.steps; place = fits }; deeds = refl }
-
-  unless : (c : Command) (b : Bool) (x y : Answer) → Keeps c x → (b ≡ false → Keeps c y) → Keeps c (if b then x else y)
-  unless c true x y p q = p
-  unless c false x y p q = q refl
-
-  back : (n m : ℕ) → n ≤ m → n - 1 ≤ m
-  back n m le = omega (arith, le)
-
-  forth : (n m : ℕ) → (m - n == 0) ≡ false → n + 1 ≤ m
-  forth n m e = grind (arith, nat_tests)
+  goes c word past future n fits = record { history = record { deeds = h.deeds; first = h.first; steps = h.steps; place = fits }; deeds = refl }
 
   keeps : (c : Command) → Keeps c (answer bench c)
-  keeps (apply who force at v) =
-      with_body-keeps (apply who force at v) who v (apply_answer bench who force at)
-      (λ config e. given (apply who force at v) (codes "apply") (applying who force at config) _ (ap (λ r. option_map (applying who force at) (body_in r)) e)
-      refl)
-  keeps (update who at v) =
-      with_body-keeps (update who at v) who v _
-      (λ body e. given (update who at v) (codes "update") (updating who at body) _ (ap (λ r. option_map (updating who at) (body_in r)) e) refl)
-  keeps strip = one_of strip (nat_le most_past (past_len bench.timeline)) _ _ (same strip (fault history_full) refl)
-      (accepted strip (codes "strip") stripping _ refl refl)
-  keeps undo = one_of undo (past_len bench.timeline == 0) _ _ (same undo (fault nothing_to_undo) refl)
-      (goes undo (codes "undo") _ _ (bench.timeline.place - 1) (back bench.timeline.place (length bench.timeline.later) h.place))
-  keeps redo =
-      unless redo (future_len bench.timeline == 0) _ _ (same redo (fault nothing_to_redo) refl)
-      (λ e. goes redo (codes "redo") _ _ (bench.timeline.place + 1) (forth bench.timeline.place (length bench.timeline.later) e))
-  keeps (show managed) = same (show managed) (shown _) refl
-  keeps (owners p) = same (owners p) (owned_by _) refl
-  keeps log = same log (logged _ _) refl
+  keeps = answers-hold bench Keeps same accepted goes h.place
 
 -- an answer keeps a history of deeds, and the present state is what those up to the place make
 pub histories_are_carried_out : HistoriesAreCarriedOut
-histories_are_carried_out = (λ bench c old. keeps bench old c, present_is)
+histories_are_carried_out = (λ origin bench c old. keeps origin bench old c, present_is)

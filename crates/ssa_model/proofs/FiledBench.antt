@@ -11,7 +11,7 @@ use Rattle.ssa_model.specs.definitions.Table.{ManagerKey}
 use Rattle.ssa_model.specs.definitions.Objects.{body_value}
 use Rattle.ssa_model.specs.definitions.Parts.{part_of}
 use Rattle.ssa_model.specs.definitions.Operations.{State, clashes, conflict, too_many_paths, too_many_managers, is_none, if_seated, apply_target, apply}
-use Rattle.ssa_model.specs.definitions.Formats.{tells_parts, CanTellStep, CanTell, IsFile}
+use Rattle.ssa_model.specs.definitions.Formats.{tells_parts, tells_depth, CanTellStep, CanTell, IsFile}
 use Rattle.ssa_model.specs.definitions.RecordedBench.{HasReadStep, HasReadHistory}
 use Rattle.ssa_model.specs.definitions.BenchText.{Format, states, head_json, first_json, step_json, bench_values, bench_text}
 use Rattle.ssa_model.specs.definitions.Valid.{IsValidState, MakesValid}
@@ -108,18 +108,22 @@ module _ (vs : List Json) where
     steps = All-cons (IsStep (readings_of vs)) applied_step [] step-is (All-nil (IsStep (readings_of vs)));
     order = (refl, tt);
     place = omega arith;
+    deep = (omega arith, omega arith);
     few = omega arith;
   }
 
 -- each format can tell of the bench
-pub filed-told : (f : Format) → CanTell f filed.timeline
+pub filed-told : (f : Format) → CanTell f filed
 filed-told f =
     let told = told (tells_parts f) in
-    record { first = told; later = All-cons (CanTellStep f) applied_step [] (told, told) (All-nil (CanTellStep f)) }
+    record { depth = deep (tells_depth f); first = told; later = All-cons (CanTellStep f) applied_step [] (told, told) (All-nil (CanTellStep f)) }
   where
     told : (b : Bool) → (b || true) ≡ true
     told true = refl
     told false = refl
+
+    deep : (b : Bool) → (b || true) ≡ true
+    deep = told
 
 -- the bench file
 pub states_file_is_met : IsFile (readings_of (bench_values filed)) states (bench_text filed) filed

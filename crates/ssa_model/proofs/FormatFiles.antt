@@ -1,5 +1,5 @@
 -- The file of a bench in a format is taken as that bench, and what is taken as a valid bench is its file in one of the formats.
-use Rattle.std.proofs.Common.{◌≡◌, ◌≤◌, List, [], ◌∷◌, length, map, Bool, true, false, Option, Some, None, option_map, option_and_then, refl, sym, ap, ◌∙◌, subst}
+use Rattle.std.proofs.Common.{ℕ, ◌≡◌, ◌≤◌, List, [], ◌∷◌, length, map, Bool, true, false, Option, Some, None, option_map, option_and_then, refl, sym, ap, ◌∙◌, subst}
 use Rattle.std.proofs.lemmas.List.Elements.{All-nil, All-cons}
 use Rattle.std.proofs.lemmas.Option.{same_Some, none-some}
 use Rattle.std.specs.List.{All}
@@ -8,7 +8,7 @@ use Rattle.ssa_model.specs.definitions.Limits.{most_bench_bytes}
 use Rattle.ssa_model.specs.definitions.Json.{Text, Json, compact, same_text}
 use Rattle.ssa_model.specs.definitions.Readings.{Readings, ReadFault}
 use Rattle.ssa_model.specs.definitions.History.{Bench}
-use Rattle.ssa_model.specs.definitions.BenchText.{Format, states, records, parts, line, bench_values}
+use Rattle.ssa_model.specs.definitions.BenchText.{Format, states, records, parts, depths, line, bench_values}
 use Rattle.ssa_model.specs.definitions.BenchFile.{IsSpelled, IsValidBench}
 use Rattle.ssa_model.specs.definitions.RecordedBench.{record_head, recorded_values, HasReadHistory}
 use Rattle.ssa_model.specs.definitions.Formats.{file_values, CanTell, IsFile}
@@ -32,9 +32,16 @@ use Rattle.ssa_model.proofs.WrittenOfTaken.{values-written}
 pub states-head : (v : Json) (head : Head) → head_in v ≡ Some head → file_head v ≡ Some (of_states head)
 states-head v head is = ap (λ o. either_head (option_map of_states o) (option_map of_records (counts_in v))) is
 
--- a value that is a head of records is written so, and says no place
+-- a head of records says no place
+no-head : (f : Format) (depth past future : ℕ) → head_in (record_head f depth past future) ≡ None
+no-head states depth past future = refl
+no-head records depth past future = refl
+no-head parts depth past future = refl
+no-head depths depth past future = refl
+
+-- nor does a value that is one
 no-place : (v : Json) (counts : Counts) → counts_in v ≡ Some counts → head_in v ≡ None
-no-place v counts is = ap head_in (compact-injective v (record_head counts.format counts.past counts.future) (counts-from v counts is).0)
+no-place v counts is = ap head_in (compact-injective v (record_head counts.format counts.depth counts.past counts.future) (counts-from v counts is).written) ∙ no-head counts.format counts.depth counts.past counts.future
 
 -- a head of records is one
 pub records-head : (v : Json) (counts : Counts) → counts_in v ≡ Some counts → file_head v ≡ Some (of_records counts)
@@ -125,6 +132,7 @@ files_are_taken readings states t bench file =
     ∙ bench_file_is_taken readings bench file.valid file.tells (subst (λ x. length x ≤ most_bench_bytes) file.text file.fits) file.spelled)
 files_are_taken readings records t bench file = records-taken readings t bench (recorded_files_are_taken readings records t bench refl file)
 files_are_taken readings parts t bench file = records-taken readings t bench (recorded_files_are_taken readings parts t bench refl file)
+files_are_taken readings depths t bench file = records-taken readings t bench (recorded_files_are_taken readings depths t bench refl file)
 
 -- ---- what is taken
 
@@ -141,13 +149,14 @@ same-values (v ∷ vs) (w ∷ ws) e =
 -- The values from which a bench is taken by a head are those that are written of it in the head's format, which can tell of it.
 record AreValues (f : Format) (vs : List Json) (bench : Bench) : Type 0 where
   pub same : vs ≡ file_values f bench
-  pub tells : CanTell f bench.timeline
+  pub tells : CanTell f bench
 
 -- in a format of records
-of-records : (f : Format) (vs : List Json) (bench : Bench) → IsOfRecords f → vs ≡ recorded_values f bench → CanTell f bench.timeline → AreValues f vs bench
+of-records : (f : Format) (vs : List Json) (bench : Bench) → IsOfRecords f → vs ≡ recorded_values f bench → CanTell f bench → AreValues f vs bench
 of-records states vs bench known same tells = absurd (none-some states known)
 of-records records vs bench known same tells = record { same = same; tells = tells }
 of-records parts vs bench known same tells = record { same = same; tells = tells }
+of-records depths vs bench known same tells = record { same = same; tells = tells }
 
 values-are : (readings : Readings) (v : Json) (vs : List Json) (head : FileHead) (bench : Bench) → HasHead v head
     → head_bench readings head (v ∷ vs) ≡ Some bench → AreValues (head_format head) (v ∷ vs) bench
@@ -160,7 +169,7 @@ values-are readings v vs (of_records k) bench (by_records c took) is =
     let counts : w.counts ≡ c = same_Some w.counts c (sym w.counted ∙ ap counts_in (sym head) ∙ took) in
     let f = ap (λ (x : Counts). x.format) counts in
     let written = same-values (v ∷ vs) (recorded_values w.counts.format bench) w.is in
-    of-records c.format (v ∷ vs) bench (counts-from v c took).1 (written ∙ ap (λ g. recorded_values g bench) f) (subst (λ g. CanTell g bench.timeline) f w.tells)
+    of-records c.format (v ∷ vs) bench (counts-from v c took).known (written ∙ ap (λ g. recorded_values g bench) f) (subst (λ g. CanTell g bench) f w.tells)
 
 -- the value of a line is read from its text
 spelled-is : (readings : Readings) (t : Text) (v : Json) → spelled_value readings t ≡ Some v → IsSpelled readings v

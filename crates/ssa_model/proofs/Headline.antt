@@ -1,8 +1,8 @@
 -- The headline's laws, from the answer to one command to lists of them.
-use Rattle.std.proofs.Common.{◌≡◌, ◌⊎◌, inl, inr, ℕ, ◌+◌, ◌-◌, ◌<◌, ◌≤◌, ◌==◌, List, [], ◌∷◌, ◌++◌, length, take, Bool, true, false, not, ◌||◌, refl, sym, ap, subst, ◌∙◌, arith, nat_le, nat_lt}
+use Rattle.std.proofs.Common.{◌≡◌, ◌⊎◌, inl, inr, ℕ, suc, length-append, ◌+◌, ◌-◌, ◌<◌, ◌≤◌, ◌==◌, List, [], ◌∷◌, ◌++◌, length, take, Bool, true, false, not, ◌||◌, refl, sym, ap, subst, ◌∙◌, arith, nat_le, nat_lt}
 use Rattle.std.proofs.lemmas.Bool.Decides.{nat_tests}
 use Rattle.std.specs.Prelude.{Result, Ok, Err, if◌then◌else◌, codes}
-use Rattle.ssa_model.specs.definitions.Limits.{most_places, most_managers, most_past}
+use Rattle.ssa_model.specs.definitions.Limits.{most_places, most_managers}
 use Rattle.ssa_model.specs.definitions.Json.{Text, Json, object, list, scalar}
 use Rattle.ssa_model.specs.definitions.Kind.{FaultAt, faults}
 use Rattle.ssa_model.specs.definitions.Objects.{body_value}
@@ -12,12 +12,12 @@ use Rattle.ssa_model.specs.definitions.Table.{applies, key_of}
 use Rattle.ssa_model.specs.definitions.Parts.{Actor, part_of}
 use Rattle.ssa_model.specs.definitions.Operations as operations
 use Rattle.ssa_model.specs.definitions.Operations.{Clash, State, Refusal, clashes, conflict, too_many_paths, pruned, if_seated, is_none}
-use Rattle.ssa_model.specs.definitions.History.{Label, stripped, Bench, Timeline, past_len, future_len, present, appended, moved_to, with_timeline, is_manager_name}
-use Rattle.ssa_model.specs.definitions.Answers.{Answer, Command, Fault, apply, update, strip, undo, redo, show, owners, log, fault, moved, refused, body_fault, identity_fault, managed_fields_given, nothing_to_undo, nothing_to_redo, history_full, manager_name, no_subresource, has_part, answer, accept, accept_or_refuse, with_body, apply_answer, command_body, run}
-use Rattle.ssa_model.specs.definitions.Effect.{all_carried_out, deeds_of_run, is_accepted, Deed, AreSteps, IsHistory}
-use Rattle.ssa_model.specs.laws.Headline.{IsAlone, RunsGoOn, RunIsInEffect, RunKeepsHistory, IsRestored, UndoRestoresAll, RedoRestoresAll, RefusalsChangeNothing, IsConflictOf, ConflictsListClashes}
+use Rattle.ssa_model.specs.definitions.History.{Label, stripped, Step, Bench, Timeline, past_len, future_len, last_state, present, advanced, forgotten, moved_to, with_timeline, is_manager_name}
+use Rattle.ssa_model.specs.definitions.Answers.{Answer, Command, Fault, apply, update, strip, undo, redo, show, owners, log, fault, moved, refused, body_fault, identity_fault, managed_fields_given, nothing_to_undo, nothing_to_redo, manager_name, no_subresource, has_part, answer, accept, accept_or_refuse, with_body, apply_answer, command_body, run}
+use Rattle.ssa_model.specs.definitions.Effect.{Deeds, no_deeds, deeds_to, all_carried_out, deeds_of_run, is_accepted, AreSteps, IsHistory}
+use Rattle.ssa_model.specs.laws.Headline.{IsAlone, RunsGoOn, RunIsInEffect, RunKeepsHistory, up_to_place, with_room, IsRestored, UndoRestoresAll, RedoRestoresAll, RefusalsChangeNothing, IsConflictOf, ConflictsListClashes}
 use Rattle.ssa_model.proofs.Effect.{histories_are_carried_out}
-use Rattle.ssa_model.proofs.Tables.{undo_restores, take_first}
+use Rattle.std.proofs.lemmas.List.{length-take-le}
 
 -- ---- lists of commands
 
@@ -26,46 +26,39 @@ pub runs_go_on : RunsGoOn
 runs_go_on bench [] ds = refl
 runs_go_on bench (c ∷ cs) ds = ap (λ r. ((answer bench c).0 ∷ r.0, r.1)) (runs_go_on (answer bench c).1 cs ds)
 
-abbrev FromRun : Bench → List Deed → List Command → Type 0
-FromRun bench before cs = (history : IsHistory (run bench cs).1.timeline) × ((run bench cs).1.timeline.first ≡ bench.timeline.first)
-    × (history.deeds ≡ deeds_of_run bench before cs)
+abbrev FromRun : State → Bench → Deeds → List Command → Type 0
+FromRun origin bench before cs = (history : IsHistory origin (run bench cs).1.timeline) × (history.deeds ≡ deeds_of_run bench before cs)
 
-from-run : (bench : Bench) (cs : List Command) (h : IsHistory bench.timeline) → FromRun bench h.deeds cs
-from-run bench [] h = (h, refl, refl)
-from-run bench (c ∷ cs) h =
-    let kept = histories_are_carried_out.0 bench c h in
-    let rest = from-run (answer bench c).1 cs kept.history in
-    (rest.0, rest.1 ∙ kept.first, rest.2 ∙ ap (λ ds. deeds_of_run (answer bench c).1 ds cs) kept.deeds)
+from-run : (origin : State) (bench : Bench) (cs : List Command) (h : IsHistory origin bench.timeline) → FromRun origin bench h.deeds cs
+from-run origin bench [] h = (h, refl)
+from-run origin bench (c ∷ cs) h =
+    let kept = histories_are_carried_out.0 origin bench c h in
+    let rest = from-run origin (answer bench c).1 cs kept.history in
+    (rest.0, rest.1 ∙ ap (λ ds. deeds_of_run (answer bench c).1 ds cs) kept.deeds)
 
 -- after a list of commands the states are made by deeds: those before and the accepted commands'
 pub run_keeps_history : RunKeepsHistory
-run_keeps_history bench cs before =
-    let made = from-run bench cs before in
-    let last = (run bench cs).1.timeline in
-    record {
-      first = made.1;
-      history = made.0;
-      deeds = made.2;
-      state = ap (λ s. all_carried_out s (take last.place made.0.deeds)) (sym made.1) ∙ histories_are_carried_out.1 last made.0;
-    }
+run_keeps_history origin bench cs before =
+    let made = from-run origin bench cs before in
+    record { history = made.0; deeds = made.1; state = histories_are_carried_out.1 origin (run bench cs).1.timeline made.0 }
 
-abbrev alone-history : (t : Timeline) → IsAlone t → IsHistory t
+abbrev alone-history : (t : Timeline) → IsAlone t → IsHistory t.first t
 alone-history t h =
     let none : t.place ≡ 0 = h.1 in
-    record { deeds = []; steps = subst (AreSteps t.first []) (sym h.0) tt; place = omega (arith, none) }
+    record { deeds = no_deeds; first = refl; steps = subst (AreSteps t.first []) (sym h.0) tt; place = omega (arith, none) }
 
 -- the present state is the commands in effect, carried out on the state that the bench was made from
 pub run_is_in_effect : RunIsInEffect
 run_is_in_effect bench cs alone =
-    let kept = run_keeps_history bench cs (alone-history bench.timeline alone) in
+    let kept = run_keeps_history bench.timeline.first bench cs (alone-history bench.timeline alone) in
     let last = (run bench cs).1.timeline in
-    ap (λ ds. all_carried_out bench.timeline.first (take last.place ds)) (sym kept.deeds) ∙ kept.state
+    ap (λ ds. all_carried_out bench.timeline.first (deeds_to last.place ds)) (sym kept.deeds) ∙ kept.state
 
 -- ---- what holds of an answer, by the tests that it goes through
 
 -- a fault of the tests before a command is carried out
 abbrev IsTested : Bench → Json → Fault → Type 0
-IsTested bench v f = (f ≡ history_full) ⊎ ((f ≡ manager_name) ⊎ ((f ≡ no_subresource) ⊎ (command_body bench v ≡ Err f)))
+IsTested bench v f = (f ≡ manager_name) ⊎ ((f ≡ no_subresource) ⊎ (command_body bench v ≡ Err f))
 
 module _ (bench : Bench) (P : Answer → Type 0) where
   one_of : (b : Bool) (x y : Answer) → P x → P y → P (if b then x else y)
@@ -81,10 +74,9 @@ module _ (bench : Bench) (P : Answer → Type 0) where
   by_body : (who : Actor) (v : Json) (go : Body → Answer) → ((f : Fault) → IsTested bench v f → P (fault f, bench))
       → ((body : Body) → command_body bench v ≡ Ok body → P (go body)) → P (with_body bench who v go)
   by_body who v go p q =
-      one_of (nat_le most_past (past_len bench.timeline)) _ _ (p history_full (inl refl))
-      (one_of (not (is_manager_name who.name)) _ _ (p manager_name (inr (inl refl)))
-      (one_of (not (has_part bench.schema.kind who.part)) _ _ (p no_subresource (inr (inr (inl refl))))
-      (of_body (command_body bench v) go (λ f e. p f (inr (inr (inr e)))) q)))
+      one_of (not (is_manager_name who.name)) _ _ (p manager_name (inl refl))
+      (one_of (not (has_part bench.schema.kind who.part)) _ _ (p no_subresource (inr (inl refl)))
+      (of_body (command_body bench v) go (λ f e. p f (inr (inr e))) q))
 
   by_result : (word : Text) (label : Label) (r : Result State Refusal) → ((s : State) → P (accept bench word label s))
       → ((f : Refusal) → r ≡ Err f → P (fault (refused f), bench)) → P (accept_or_refuse bench word label r)
@@ -112,8 +104,7 @@ module _ (bench : Bench) where
   leaves : (c : Command) → Leaves (answer bench c)
   leaves (apply who force at v) = by_body bench Leaves who v _ (λ f _. leaves-refused f) (λ body _. leaves-made _ _ _)
   leaves (update who at v) = by_body bench Leaves who v _ (λ f _. leaves-refused f) (λ body _. leaves-made _ _ _)
-  leaves strip = one_of bench Leaves (nat_le most_past (past_len bench.timeline)) _ _ (leaves-refused history_full)
-      (leaves-accepted (codes "strip") stripped (operations.strip (present bench.timeline)))
+  leaves strip = leaves-accepted (codes "strip") stripped (operations.strip (present bench.timeline))
   leaves undo = one_of bench Leaves (past_len bench.timeline == 0) _ _ (leaves-refused nothing_to_undo)
       (leaves-moved (codes "undo") (past_len bench.timeline - 1) (future_len bench.timeline + 1) (bench.timeline.place - 1))
   leaves redo = one_of bench Leaves (future_len bench.timeline == 0) _ _ (leaves-refused nothing_to_redo)
@@ -131,7 +122,7 @@ refusals_change_nothing bench c = leaves bench c
 module _ (bench : Bench) where
   -- an accepted command puts its state behind the present one
   abbrev Appends : Answer → Type 0
-  Appends a = is_accepted a.0 ≡ true → (label : Label) × (s : State) × (a.1 ≡ with_timeline bench (appended bench.timeline label s))
+  Appends a = is_accepted a.0 ≡ true → (label : Label) × (s : State) × (a.1 ≡ advanced bench label s)
 
   appends-refused : (f : Fault) → Appends (fault f, bench)
   appends-refused f h = cc
@@ -148,8 +139,7 @@ module _ (bench : Bench) where
   appends : (c : Command) → Appends (answer bench c)
   appends (apply who force at v) = by_body bench Appends who v _ (λ f _. appends-refused f) (λ body _. appends-made _ _ _)
   appends (update who at v) = by_body bench Appends who v _ (λ f _. appends-refused f) (λ body _. appends-made _ _ _)
-  appends strip = one_of bench Appends (nat_le most_past (past_len bench.timeline)) _ _ (appends-refused history_full)
-      (appends-accepted (codes "strip") stripped (operations.strip (present bench.timeline)))
+  appends strip = appends-accepted (codes "strip") stripped (operations.strip (present bench.timeline))
   appends undo = one_of bench Appends (past_len bench.timeline == 0) _ _ (appends-refused nothing_to_undo)
       (appends-moved (codes "undo") (past_len bench.timeline - 1) (future_len bench.timeline + 1) (bench.timeline.place - 1))
   appends redo = one_of bench Appends (future_len bench.timeline == 0) _ _ (appends-refused nothing_to_redo)
@@ -196,32 +186,98 @@ ahead n m h le = grind (arith, nat_tests)
 one_ahead : (n m : ℕ) → (m - n) ≡ 1 → (m - (n + 1)) + 1 ≡ 1
 one_ahead n m h = omega (arith, h)
 
--- undo of the bench with one more state
-undone-appended : (bench : Bench) (label : Label) (s : State) → bench.timeline.place ≤ length bench.timeline.later
-    → IsRestored bench (answer (with_timeline bench (appended bench.timeline label s)) undo)
-undone-appended bench label s h =
-    let t = bench.timeline in
-    let after = with_timeline bench (appended t label s) in
-    let back = undo_restores t label s h in
-    let e = undone after (some t.place) in
-    let restored : Answer → Type 0 = IsRestored bench in
-    subst restored (sym e) (record {
-      reply = λ i. moved (codes "undo") (one_less t.place i)
-          (one_ahead t.place (length (take t.place t.later ++ record { label = label; state = s } ∷ [])) back.1 i);
-      schema = refl;
-      identity = refl;
-      first = refl;
-      past = take_first t.place t.later (record { label = label; state = s }) h;
-      place = one_less t.place;
-      state = ap (λ n. present (moved_to (appended t label s) n)) (one_less t.place) ∙ back.0;
-      future = ap (λ n. future_len (moved_to (appended t label s) n)) (one_less t.place) ∙ back.1;
-    })
+-- undo of a history with one state more, whose oldest is forgotten where there are too many
+abbrev Restored : Bench → Timeline → Type 0
+Restored bench t = IsRestored bench (answer (with_timeline bench t) undo)
+
+restored-by : (bench : Bench) (t : Timeline) → (past_len t == 0) ≡ false
+    → up_to_place (moved_to t (t.place - 1)) ≡ with_room bench.depth bench.timeline
+    → present (moved_to t (t.place - 1)) ≡ present bench.timeline → future_len (moved_to t (t.place - 1)) ≡ 1 → future_len t + 1 ≡ 1 → Restored bench t
+restored-by bench t some past state ahead one =
+    subst (IsRestored bench) (sym (undone (with_timeline bench t) some))
+    (record { reply = ap (moved (codes "undo") (t.place - 1)) one; schema = refl; identity = refl; depth = refl; past = past; state = state; future = ahead })
+
+-- the present state is the last of those up to the place
+kept-last : (first : State) (ts : List Step) (s : Step) → take (length ts) (ts ++ s ∷ []) ≡ ts
+kept-last first [] s = refl
+kept-last first (t ∷ ts) s = ap (λ us. t ∷ us) (kept-last first ts s)
+
+-- the states after the first, and one more behind them: its undo, with the oldest forgotten or not
+undone-long : (bench : Bench) (first : State) (ts : List Step) (s : Step)
+    → up_to_place bench.timeline ≡ record { first = first; later = ts; place = length ts } → last_state first ts ≡ present bench.timeline
+    → nat_lt bench.depth (bench.timeline.place + 1) ≡ false
+    → Restored bench (record { first = first; later = ts ++ s ∷ []; place = length ts + 1 })
+undone-long bench first ts s up now short =
+    restored-by bench (record { first = first; later = ts ++ s ∷ []; place = length ts + 1 }) (some (length ts))
+    (place-back ∙ sym up ∙ sym (ap (λ b. if b then forgotten (up_to_place bench.timeline) else up_to_place bench.timeline) short))
+    (ap (λ n. last_state first (take n (ts ++ s ∷ []))) (one_less (length ts)) ∙ ap (last_state first) (kept-last first ts s) ∙ now)
+    (ahead-one (length ts) (length (ts ++ s ∷ [])) (length-append ts (s ∷ [])))
+    (ahead-none (length ts) (length (ts ++ s ∷ [])) (length-append ts (s ∷ [])))
+  where
+    place-back : up_to_place (moved_to (record { first = first; later = ts ++ s ∷ []; place = length ts + 1 }) ((length ts + 1) - 1))
+        ≡ record { first = first; later = ts; place = length ts }
+    place-back =
+        ap (λ n. up_to_place (record { first = first; later = ts ++ s ∷ []; place = n })) (one_less (length ts))
+        ∙ ap (λ us. record { first = first; later = us; place = length ts }) (kept-last first ts s)
+
+    ahead-one : (n m : ℕ) → m ≡ n + 1 → m - ((n + 1) - 1) ≡ 1
+    ahead-one n m e = omega (arith, e)
+
+    ahead-none : (n m : ℕ) → m ≡ n + 1 → (m - (n + 1)) + 1 ≡ 1
+    ahead-none n m e = omega (arith, e)
+
+one-back : (n : ℕ) → suc n - 1 ≡ n
+one-back n = omega arith
+
+undone-forgotten : (bench : Bench) (first : State) (t : Step) (ts : List Step) (s : Step)
+    → up_to_place bench.timeline ≡ record { first = first; later = t ∷ ts; place = suc (length ts) } → last_state first (t ∷ ts) ≡ present bench.timeline
+    → nat_lt bench.depth (bench.timeline.place + 1) ≡ true
+    → Restored bench (record { first = t.state; later = ts ++ s ∷ []; place = length ts + 1 })
+undone-forgotten bench first t ts s up now long =
+    restored-by bench (record { first = t.state; later = ts ++ s ∷ []; place = length ts + 1 }) (some (length ts))
+    (ap (λ n. up_to_place (record { first = t.state; later = ts ++ s ∷ []; place = n })) (one_less (length ts))
+    ∙ ap (λ us. record { first = t.state; later = us; place = length ts }) (kept-last t.state ts s)
+    ∙ sym (ap (λ n. record { first = t.state; later = ts; place = n }) (one-back (length ts))) ∙ sym (ap forgotten up)
+    ∙ sym (ap (λ b. if b then forgotten (up_to_place bench.timeline) else up_to_place bench.timeline) long))
+    (ap (λ n. last_state t.state (take n (ts ++ s ∷ []))) (one_less (length ts)) ∙ ap (last_state t.state) (kept-last t.state ts s) ∙ now)
+    (ahead-one (length ts) (length (ts ++ s ∷ [])) (length-append ts (s ∷ [])))
+    (ahead-none (length ts) (length (ts ++ s ∷ [])) (length-append ts (s ∷ [])))
+  where
+    ahead-one : (n m : ℕ) → m ≡ n + 1 → m - ((n + 1) - 1) ≡ 1
+    ahead-one n m e = omega (arith, e)
+
+    ahead-none : (n m : ℕ) → m ≡ n + 1 → (m - (n + 1)) + 1 ≡ 1
+    ahead-none n m e = omega (arith, e)
+
+-- by the states up to the place
+undone-held : (bench : Bench) (s : Step) → 0 < bench.depth → (ts : List Step) → take bench.timeline.place bench.timeline.later ≡ ts
+    → bench.timeline.place ≡ length ts → (full : Bool) → nat_lt bench.depth (bench.timeline.place + 1) ≡ full
+    → Restored bench (if full then forgotten (record { first = bench.timeline.first; later = ts ++ s ∷ []; place = bench.timeline.place + 1 })
+    else record { first = bench.timeline.first; later = ts ++ s ∷ []; place = bench.timeline.place + 1 })
+undone-held bench s deep ts e many false short =
+    subst (λ n. Restored bench (record { first = bench.timeline.first; later = ts ++ s ∷ []; place = n + 1 })) (sym many)
+    (undone-long bench bench.timeline.first ts s (λ i. record { first = bench.timeline.first; later = e i; place = many i })
+    (ap (last_state bench.timeline.first) (sym e)) short)
+undone-held bench s deep [] e many true long = absurd (no_room bench.depth bench.timeline.place deep many long)
+  where
+    no_room : (depth n : ℕ) → 0 < depth → n ≡ 0 → nat_lt depth (n + 1) ≡ true → ⊥
+    no_room depth n some none lt = grind (arith, nat_tests)
+undone-held bench s deep (t ∷ ts) e many true long =
+    subst (λ n. Restored bench (record { first = t.state; later = ts ++ s ∷ []; place = n })) (sym (shorter bench.timeline.place (length ts) many))
+    (undone-forgotten bench bench.timeline.first t ts s (λ i. record { first = bench.timeline.first; later = e i; place = many i })
+    (ap (last_state bench.timeline.first) (sym e)) long)
+  where
+    shorter : (n m : ℕ) → n ≡ suc m → (n + 1) - 1 ≡ m + 1
+    shorter n m e = omega (arith, e)
 
 -- undo after an accepted command restores the bench up to its place, and that command alone can be done again
 pub undo_restores_all : UndoRestoresAll
-undo_restores_all bench c h accepted =
+undo_restores_all bench c deep h accepted =
     let made = appends bench c accepted in
-    subst (λ b. IsRestored bench (answer b undo)) (sym made.2) (undone-appended bench made.0 made.1 h)
+    let t = bench.timeline in
+    subst (λ b. IsRestored bench (answer b undo)) (sym made.2)
+    (undone-held bench (record { label = made.0; state = made.1 }) deep (take t.place t.later) refl (sym (length-take-le t.place t.later h))
+    (nat_lt bench.depth (t.place + 1)) refl)
 
 -- redo after undo restores the whole bench
 pub redo_restores_all : RedoRestoresAll
@@ -262,10 +318,9 @@ no-conflict bench (list vs) cs h = absurd cc
 no-conflict bench (scalar s) cs h = absurd cc
 
 tested-no_conflict : (bench : Bench) (v : Json) (cs : List Clash) (f : Fault) → IsTested bench v f → f ≡ refused (conflict cs) → ⊥
-tested-no_conflict bench v cs f (inl full) h = absurd cc
-tested-no_conflict bench v cs f (inr (inl named)) h = absurd cc
-tested-no_conflict bench v cs f (inr (inr (inl apart))) h = absurd cc
-tested-no_conflict bench v cs f (inr (inr (inr e))) h = no-conflict bench v cs (e ∙ ap Err h)
+tested-no_conflict bench v cs f (inl named) h = absurd cc
+tested-no_conflict bench v cs f (inr (inl apart)) h = absurd cc
+tested-no_conflict bench v cs f (inr (inr e)) h = no-conflict bench v cs (e ∙ ap Err h)
 
 module _ (bench : Bench) (who : Actor) (force : Bool) (v : Json) where
   abbrev Lists : Answer → Type 0

@@ -27,7 +27,7 @@ use Rattle.ssa_model.proofs.PutParts.{get-below, has-below}
 element-tied : (e : Element) → element_cmp e e ≡ Rattle.std.proofs.Common.Equal
 element-tied e = tied_itself (on_total element_text nat_list_cmp_total) e
 
-cmp-below : (p q r : Path) → path_cmp (p ++ q) (p ++ r) ≡ path_cmp q r
+pub cmp-below : (p q r : Path) → path_cmp (p ++ q) (p ++ r) ≡ path_cmp q r
 cmp-below [] q r = refl
 cmp-below (e ∷ p) q r = ap (λ o. ordering_then o (path_cmp (p ++ q) (p ++ r))) (element-tied e) ∙ cmp-below p q r
 

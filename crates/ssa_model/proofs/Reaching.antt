@@ -133,7 +133,7 @@ found-field fs (member m w ms) n v fits found =
       | false ↦ λ t found. found-field fs ms n v (member-rest fs m w ms fits) found
     ] refl found
 
-found-entry : (k : Kind) (ms : Members) (n : Text) (v : Json) → EntriesFit k ms → member_of n ms ≡ Some v → Fits k v
+pub found-entry : (k : Kind) (ms : Members) (n : Text) (v : Json) → EntriesFit k ms → member_of n ms ≡ Some v → Fits k v
 found-entry k no_members n v fits found = absurd (none-some v found)
 found-entry k (member m w ms) n v fits found =
     elim (same_text n m) as (λ t. (if t then Some w else member_of n ms) ≡ Some v → Fits k v) [

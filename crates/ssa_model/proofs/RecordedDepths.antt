@@ -1,5 +1,5 @@
 -- The values of the file of records of a valid bench are shallow.
-use Rattle.std.proofs.Common.{◌≤◌, List, [], ◌∷◌, ◌++◌, ap, arith}
+use Rattle.std.proofs.Common.{◌≤◌, ℕ, List, [], ◌∷◌, ◌++◌, ap, arith}
 use Rattle.std.proofs.lemmas.List.Elements.{All-nil, All-cons, All-head, All-tail, All-take, All-drop, All-append, All-push}
 use Rattle.std.specs.List.{All}
 use Rattle.ssa_model.specs.definitions.Json.{depth}
@@ -8,7 +8,7 @@ use Rattle.ssa_model.specs.definitions.Entries.{version_in}
 use Rattle.ssa_model.specs.definitions.Operations.{State}
 use Rattle.ssa_model.specs.definitions.History.{Label, Step, Bench, present, past_len, future_len}
 use Rattle.ssa_model.specs.definitions.Readings.{Readings}
-use Rattle.ssa_model.specs.definitions.BenchText.{whole_object}
+use Rattle.ssa_model.specs.definitions.BenchText.{Format, states, records, parts, depths, whole_object}
 use Rattle.ssa_model.specs.definitions.Valid.{IsValidState, MakesValid}
 use Rattle.ssa_model.specs.definitions.BenchFile.{IsValidBench}
 use Rattle.ssa_model.specs.definitions.RecordedBench.{record_head, record_line, past_lines, future_lines, past_steps, future_steps}
@@ -52,6 +52,12 @@ module _ (readings : Readings) (bench : Bench) (valid : IsValidBench readings be
       All-cons IsShallow (record_line bench s.label v s.state) (future_lines bench s.state ss) (line-shallow s.label v s.state a own)
       (future-shallow s.state ss own (All-tail (MakesValid bench.schema.kind) s ss all))
 
+head-shallow : (f : Format) (depth past future : ℕ) → IsShallow (record_head f depth past future)
+head-shallow states depth past future = omega arith
+head-shallow records depth past future = omega arith
+head-shallow parts depth past future = omega arith
+head-shallow depths depth past future = omega arith
+
 -- all values of a valid bench's file of records are shallow, where no object of its schema names a member twice
 pub recorded_bench_is_shallow : RecordedBenchIsShallow
 recorded_bench_is_shallow readings f bench valid apart =
@@ -61,7 +67,8 @@ recorded_bench_is_shallow readings f bench valid apart =
     let back = past_lines bench t.first (past_steps t) in
     let on = future_lines bench now (future_steps t) in
     let object = object-shallow readings bench valid now now_valid in
-    All-cons IsShallow (record_head f (past_len t) (future_len t)) (bench.schema.source ∷ whole_object bench now ∷ back ++ on) (omega arith)
+    All-cons IsShallow (record_head f bench.depth (past_len t) (future_len t)) (bench.schema.source ∷ whole_object bench now ∷ back ++ on)
+    (head-shallow f bench.depth (past_len t) (future_len t))
     (All-cons IsShallow bench.schema.source (whole_object bench now ∷ back ++ on) (schema_is_shallow bench.schema.source bench.schema.kind apart valid.read)
     (All-cons IsShallow (whole_object bench now) (back ++ on) (omega arith)
     (All-append IsShallow back on

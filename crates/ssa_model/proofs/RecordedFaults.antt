@@ -137,25 +137,25 @@ module _ (readings : Readings) (bench : Bench) where
       (spelled-drop readings counts.past ts js spelled) future.1
 
   abbrev of_schema : Counts → Json → List Json → Schema → Option Bench
-  of_schema counts now js schema = option_and_then (λ b. lines_bench readings counts b js) (present_in readings counts.format schema now)
+  of_schema counts now js schema = option_and_then (λ b. lines_bench readings counts b js) (present_in readings counts.format counts.depth schema now)
 
   abbrev of_counts : Json → Json → List Json → Counts → Option Bench
   of_counts source now js counts = option_and_then (of_schema counts now js) (schema_in source)
 
   abbrev opening : Text → Text → Counts → Option (Counts × Bench)
   opening b c counts =
-      option_and_then (λ schema. option_map (λ (x : Bench). (counts, x)) (option_and_then (present_in readings counts.format schema) (spelled_value readings c)))
+      option_and_then (λ schema. option_map (λ (x : Bench). (counts, x)) (option_and_then (present_in readings counts.format counts.depth schema) (spelled_value readings c)))
       (option_and_then schema_in (spelled_value readings b))
 
   opening-is : (a b c : Text) (head source now : Json) (counts : Counts) (schema : Schema) (there : Bench)
       → spelled_value readings a ≡ Some head → spelled_value readings b ≡ Some source → spelled_value readings c ≡ Some now
-      → counts_in head ≡ Some counts → schema_in source ≡ Some schema → present_in readings counts.format schema now ≡ Some there
+      → counts_in head ≡ Some counts → schema_in source ≡ Some schema → present_in readings counts.format counts.depth schema now ≡ Some there
       → opening_in readings a b c ≡ Some (counts, there)
   opening-is a b c head source now counts schema there sa sb sc counted schemed is =
       ap (option_and_then (opening b c)) (ap (option_and_then counts_in) sa ∙ counted)
-      ∙ ap (option_and_then (λ schema. option_map (λ (x : Bench). (counts, x)) (option_and_then (present_in readings counts.format schema) (spelled_value readings c))))
+      ∙ ap (option_and_then (λ schema. option_map (λ (x : Bench). (counts, x)) (option_and_then (present_in readings counts.format counts.depth schema) (spelled_value readings c))))
       (ap (option_and_then schema_in) sb ∙ schemed)
-      ∙ ap (option_map (λ (x : Bench). (counts, x))) (ap (option_and_then (present_in readings counts.format schema)) sc ∙ is)
+      ∙ ap (option_map (λ (x : Bench). (counts, x))) (ap (option_and_then (present_in readings counts.format counts.depth schema)) sc ∙ is)
 
   opened-faultless : (a b c : Text) (ts : List Text) (head source now : Json) (js : List Json)
       → spelled_value readings a ≡ Some head → spelled_value readings b ≡ Some source → spelled_value readings c ≡ Some now
@@ -164,7 +164,7 @@ module _ (readings : Readings) (bench : Bench) where
   opened-faultless a b c ts head source now js sa sb sc spelled is =
       let counts = and_then-back (of_counts source now js) (counts_in head) bench is in
       let schema = and_then-back (of_schema counts.0 now js) (schema_in source) bench counts.2 in
-      let there = and_then-back (λ b. lines_bench readings counts.0 b js) (present_in readings counts.0.format schema.0 now) bench schema.2 in
+      let there = and_then-back (λ b. lines_bench readings counts.0 b js) (present_in readings counts.0.format counts.0.depth schema.0 now) bench schema.2 in
       by-opening counts.0 there.0 (opening-is a b c head source now counts.0 schema.0 there.0 sa sb sc counts.1 schema.1 there.1) there.2
     where
       by-opening : (counts : Counts) (there : Bench) → opening_in readings a b c ≡ Some (counts, there) → lines_bench readings counts there js ≡ Some bench

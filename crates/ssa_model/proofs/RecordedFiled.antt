@@ -3,9 +3,9 @@ use Rattle.std.proofs.Common.{◌≡◌, [], ◌∷◌, length, false, refl, ap}
 use Rattle.std.proofs.lemmas.List.Elements.{All-nil, All-cons, All-head}
 use Rattle.std.specs.List.{All, list_any}
 use Rattle.std.specs.Prelude.{codes}
-use Rattle.ssa_model.specs.definitions.Limits.{most_bench_bytes}
+use Rattle.ssa_model.specs.definitions.Limits.{most_past, most_bench_bytes}
 use Rattle.ssa_model.specs.definitions.Json.{Json, list, no_items, compact, same_text}
-use Rattle.ssa_model.specs.definitions.BenchText.{Format, states, records, parts, whole_object}
+use Rattle.ssa_model.specs.definitions.BenchText.{Format, states, records, parts, depths, whole_object}
 use Rattle.ssa_model.specs.definitions.BenchFile.{IsReadBack, IsStep, IsSpelled}
 use Rattle.ssa_model.specs.definitions.Operations.{State}
 use Rattle.ssa_model.specs.definitions.RecordReading.{member_in, HasReadPaths}
@@ -27,13 +27,13 @@ onward = record_line filed applied_step.label filed.timeline.first applied_step.
 
 -- the values are spelled where the texts of the first ones are apart from those behind them
 spelled-by : (f : Format)
-    → list_any (λ w. same_text (compact w) (compact filed.schema.source)) (record_head f 0 1 ∷ []) ≡ false
-    → list_any (λ w. same_text (compact w) (compact shown)) (record_head f 0 1 ∷ filed.schema.source ∷ []) ≡ false
-    → list_any (λ w. same_text (compact w) (compact onward)) (record_head f 0 1 ∷ filed.schema.source ∷ shown ∷ []) ≡ false
+    → list_any (λ w. same_text (compact w) (compact filed.schema.source)) (record_head f most_past 0 1 ∷ []) ≡ false
+    → list_any (λ w. same_text (compact w) (compact shown)) (record_head f most_past 0 1 ∷ filed.schema.source ∷ []) ≡ false
+    → list_any (λ w. same_text (compact w) (compact onward)) (record_head f most_past 0 1 ∷ filed.schema.source ∷ shown ∷ []) ≡ false
     → All (IsSpelled (readings_of (recorded_values f filed))) (recorded_values f filed)
 spelled-by f second third fourth =
     let readings = readings_of (recorded_values f filed) in
-    let head = record_head f 0 1 in
+    let head = record_head f most_past 0 1 in
     let source = filed.schema.source in
     All-cons (IsSpelled readings) head (source ∷ shown ∷ onward ∷ []) (spelled-in [] head (source ∷ shown ∷ onward ∷ []) refl)
     (All-cons (IsSpelled readings) source (shown ∷ onward ∷ []) (spelled-in (head ∷ []) source (shown ∷ onward ∷ []) second)
@@ -59,21 +59,29 @@ files_are_met parts = record {
   fits = le-of (length (recorded_text parts filed)) most_bench_bytes refl;
   spelled = spelled-by parts refl refl refl;
 }
+files_are_met depths = record {
+  valid = filed-valid (recorded_values depths filed);
+  paths = read-history (recorded_values depths filed);
+  tells = filed-told depths;
+  text = refl;
+  fits = le-of (length (recorded_text depths filed)) most_bench_bytes refl;
+  spelled = spelled-by depths refl refl refl;
+}
 
 -- ---- one line
 
-read-back : (s : State) → IsValidState sample_kind s → HasReadPaths (readings_of (recorded_values parts filed)) s.body
-    → AllEntries (IsReadBack (readings_of (recorded_values parts filed))) s.table → IsReadBackState (readings_of (recorded_values parts filed)) sample_kind s
+read-back : (s : State) → IsValidState sample_kind s → HasReadPaths (readings_of (recorded_values depths filed)) s.body
+    → AllEntries (IsReadBack (readings_of (recorded_values depths filed))) s.table → IsReadBackState (readings_of (recorded_values depths filed)) sample_kind s
 read-back s valid paths table = record { valid = valid; paths = paths; table = table }
 
 -- the states of the sample's line, the line and two damaged values meet what the laws of one line ask
 pub recorded_moves_are_met : RecordedMovesAreMet
 recorded_moves_are_met =
-    let good = filed-valid (recorded_values parts filed) in
-    let readings = readings_of (recorded_values parts filed) in (
+    let good = filed-valid (recorded_values depths filed) in
+    let readings = readings_of (recorded_values depths filed) in (
       record { accepted = good.accepted; named = good.named },
-      read-back filed.timeline.first first-valid (read-history (recorded_values parts filed)).first good.first,
-      read-back applied_step.state applied-valid (All-head (HasReadStep readings) applied_step [] (read-history (recorded_values parts filed)).later)
+      read-back filed.timeline.first first-valid (read-history (recorded_values depths filed)).first good.first,
+      read-back applied_step.state applied-valid (All-head (HasReadStep readings) applied_step [] (read-history (recorded_values depths filed)).later)
           (All-head (IsStep readings) applied_step [] good.steps).table,
       (All-head (IsStep readings) applied_step [] good.steps).label,
       good.order.0,

@@ -1,5 +1,5 @@
 -- From the lines that are written of a valid bench, by records, the bench is taken, and from its file.
-use Rattle.std.proofs.Common.{◌≡◌, ◌≤◌, ℕ, zero, suc, ◌+◌, ◌-◌, length, List, [], ◌∷◌, ◌++◌, take, drop, true, ◌&&◌, Option, Some, None, option_map, option_and_then, refl, sym, ap, ◌∙◌, subst, arith, append_assoc, append-nil, length-append, length-drop}
+use Rattle.std.proofs.Common.{◌≡◌, ◌≤◌, ℕ, zero, suc, ◌+◌, ◌-◌, length, List, [], ◌∷◌, ◌++◌, take, drop, true, ◌&&◌, Option, Some, None, option_map, option_and_then, refl, sym, ap, ◌∙◌, subst, arith, append_assoc, append-nil, length-append, length-drop, eqb-true}
 use Rattle.std.proofs.Math.Seq.{take-append_seam, drop-append_seam}
 use Rattle.std.proofs.lemmas.Bool.{and_from}
 use Rattle.std.proofs.lemmas.List.{take-append-drop, length-take-le}
@@ -13,15 +13,15 @@ use Rattle.ssa_model.specs.definitions.Readings.{Readings}
 use Rattle.ssa_model.specs.definitions.Schema.{Schema}
 use Rattle.ssa_model.specs.definitions.Operations.{State}
 use Rattle.ssa_model.specs.definitions.History.{Label, Step, Bench, last_state, present, with_timeline}
-use Rattle.ssa_model.specs.definitions.Answers.{Fault, lone_bench, bench_of}
-use Rattle.ssa_model.specs.definitions.BenchText.{Format, states, records, parts, whole_object}
+use Rattle.ssa_model.specs.definitions.Answers.{Fault, lone_bench, bench_with}
+use Rattle.ssa_model.specs.definitions.BenchText.{Format, states, records, parts, depths, whole_object}
 use Rattle.ssa_model.specs.definitions.Valid.{MakesValid, KeepsOrder, KeepsOrders}
 use Rattle.ssa_model.specs.definitions.BenchFile.{IsLabel, IsStep, IsSpelled, IsValidBench}
 use Rattle.ssa_model.specs.definitions.RecordedBench.{record_head, record_line, past_lines, future_lines, past_steps, future_steps, recorded_values, recorded_text, HasReadStep, HasReadHistory}
-use Rattle.ssa_model.specs.definitions.Formats.{can_tell_state, can_tell_line, CanTellStep, CanTell}
+use Rattle.ssa_model.specs.definitions.Formats.{can_tell_depth, can_tell_state, can_tell_line, CanTellStep, CanTell}
 use Rattle.ssa_model.specs.laws.BenchFiles.{text_lines, spelled_values, given_if, is_written_as, schema_in}
 use Rattle.ssa_model.specs.laws.RecordedMoves.{IsReadBackState, TellsLines}
-use Rattle.ssa_model.specs.laws.RecordedBenches.{Counts, IsOfRecords, counts_in, present_in, move_in, told_move, past_in, future_in, with_moves, lines_bench, recorded_bench, recorded_bench_in, RecordedFilesAreTaken}
+use Rattle.ssa_model.specs.laws.RecordedBenches.{Counts, IsOfRecords, is_head, counts_in, present_in, move_in, told_move, past_in, future_in, with_moves, lines_bench, recorded_bench, recorded_bench_in, RecordedFilesAreTaken}
 use Rattle.ssa_model.proofs.RecordedMoves.{move-back}
 use Rattle.ssa_model.proofs.ToldParts.{told-line}
 use Rattle.ssa_model.proofs.SpelledValues.{text_lines-of, spelled_values-of}
@@ -128,14 +128,31 @@ future-many bench v (s ∷ ss) = let rest = future-many bench s.state ss in omeg
 
 -- ---- the bench
 
-counts-back : (f : Format) (past future : ℕ) → IsOfRecords f → past + future ≤ most_past
-    → counts_in (record_head f past future) ≡ Some (record { format = f; past = past; future = future })
-counts-back f past future known few =
-    let head = record_head f past future in
-    ap (option_and_then (λ g. given_if {X = Counts} (is_written_as (record_head g past future) head && nat_le (past + future) most_past)
-    (record { format = g; past = past; future = future }))) known
-    ∙ ap (λ b. given_if {X = Counts} b (record { format = f; past = past; future = future }))
-    (and_from (is_written_as head head) (nat_le (past + future) most_past) (written-itself head) (nat_le-of (past + future) most_past few))
+-- the test of a head is passed by its own numbers
+head-passes : (f : Format) (depth past future : ℕ) → (1 ≤ depth) × (depth ≤ most_past) → past + future ≤ depth
+    → (is_written_as (record_head f depth past future) (record_head f depth past future) && is_head depth past future) ≡ true
+head-passes f depth past future deep few =
+    let head = record_head f depth past future in
+    and_from (is_written_as head head) (is_head depth past future) (written-itself head)
+    (and_from (nat_le 1 depth) (nat_le depth most_past && nat_le (past + future) depth) (nat_le-of 1 depth deep.0)
+    (and_from (nat_le depth most_past) (nat_le (past + future) depth) (nat_le-of depth most_past deep.1) (nat_le-of (past + future) depth few)))
+
+counts-back : (f : Format) (depth past future : ℕ) → IsOfRecords f → can_tell_depth f depth ≡ true → (1 ≤ depth) × (depth ≤ most_past) → past + future ≤ depth
+    → counts_in (record_head f depth past future) ≡ Some (record { format = f; depth = depth; past = past; future = future })
+counts-back states depth past future known told deep few = absurd (none-some states known)
+counts-back records depth past future known told deep few =
+    ap (λ n. given_if {X = Counts} (is_written_as (record_head records n past future) (record_head records depth past future) && is_head n past future)
+    (record { format = records; depth = n; past = past; future = future })) (sym (eqb-true depth most_past told))
+    ∙ ap (λ b. given_if {X = Counts} b (record { format = records; depth = depth; past = past; future = future }))
+    (head-passes records depth past future deep few)
+counts-back parts depth past future known told deep few =
+    ap (λ n. given_if {X = Counts} (is_written_as (record_head parts n past future) (record_head parts depth past future) && is_head n past future)
+    (record { format = parts; depth = n; past = past; future = future })) (sym (eqb-true depth most_past told))
+    ∙ ap (λ b. given_if {X = Counts} b (record { format = parts; depth = depth; past = past; future = future }))
+    (head-passes parts depth past future deep few)
+counts-back depths depth past future known told deep few =
+    ap (λ b. given_if {X = Counts} b (record { format = depths; depth = depth; past = past; future = future }))
+    (head-passes depths depth past future deep few)
 
 present-by : (v : Json) (f : Format) (r : Result Bench Fault) (now : Bench)
     → r ≡ Ok now → whole_object now now.timeline.first ≡ v → can_tell_state f now.timeline.first ≡ true
@@ -150,7 +167,7 @@ present-by v f r now is same tells =
     (and_from (is_written_as own v) (can_tell_state f now.timeline.first) (ap (is_written_as own) (sym same) ∙ written-itself own) tells)
 
 module _ (readings : Readings) (f : Format) (known : IsOfRecords f) (bench : Bench) (valid : IsValidBench readings bench)
-    (read : HasReadHistory readings bench.timeline) (tells : CanTell f bench.timeline) where
+    (read : HasReadHistory readings bench.timeline) (tells : CanTell f bench) where
   abbrev first : State
   first = bench.timeline.first
 
@@ -158,7 +175,7 @@ module _ (readings : Readings) (f : Format) (known : IsOfRecords f) (bench : Ben
   v = present bench.timeline
 
   abbrev now : Bench
-  now = lone_bench bench.schema bench.identity v
+  now = lone_bench bench.depth bench.schema bench.identity v
 
   abbrev before : List Step
   before = past_steps bench.timeline
@@ -173,7 +190,7 @@ module _ (readings : Readings) (f : Format) (known : IsOfRecords f) (bench : Ben
   on_lines = future_lines bench v behind
 
   abbrev counts : Counts
-  counts = record { format = f; past = bench.timeline.place; future = length bench.timeline.later - bench.timeline.place }
+  counts = record { format = f; depth = bench.depth; past = bench.timeline.place; future = length bench.timeline.later - bench.timeline.place }
 
   good-first : IsGoodState readings f bench valid first
   good-first = record { valid = valid.states.first; paths = read.first; table = valid.first }
@@ -191,11 +208,11 @@ module _ (readings : Readings) (f : Format) (known : IsOfRecords f) (bench : Ben
       told-last (suc n) w [] h all = h
       told-last (suc n) w (s ∷ ss) h all = told-last n s.state ss (All-head (CanTellStep f) s ss all).1 (All-tail (CanTellStep f) s ss all)
 
-  present-back : present_in readings f bench.schema (whole_object bench v) ≡ Some now
+  present-back : present_in readings f bench.depth bench.schema (whole_object bench v) ≡ Some now
   present-back =
       let good = good-last readings f bench valid bench.timeline.place first bench.timeline.later good-first good-all in
-      present-by (whole_object bench v) f (bench_of readings bench.schema (whole_object bench v)) now
-      (shown-back readings bench valid.named valid.accepted v good.valid good.table) refl told-present
+      present-by (whole_object bench v) f (bench_with readings bench.depth bench.schema (whole_object bench v)) now
+      (shown-back readings bench valid.named valid.accepted v good.valid good.table bench.depth) refl told-present
 
   place-many : length back_lines ≡ bench.timeline.place
   place-many = past-many bench first before ∙ length-take-le bench.timeline.place bench.timeline.later valid.place
@@ -226,7 +243,7 @@ module _ (readings : Readings) (f : Format) (known : IsOfRecords f) (bench : Ben
       many
       ∙ ap (λ ss. Some (with_timeline now (record { first = first; later = ss; place = place }))) (take-append-drop place later)
 
-  few : bench.timeline.place + (length bench.timeline.later - bench.timeline.place) ≤ most_past
+  few : bench.timeline.place + (length bench.timeline.later - bench.timeline.place) ≤ bench.depth
   few = let within = valid.place in let short = valid.few in omega (arith, within, short)
 
   abbrev js : List Json
@@ -241,13 +258,13 @@ module _ (readings : Readings) (f : Format) (known : IsOfRecords f) (bench : Ben
   -- from the values that are written of the bench it is taken
   pub recorded-back : recorded_bench readings (recorded_values f bench) ≡ Some bench
   recorded-back =
-      ap (option_and_then of_counts) (counts-back f bench.timeline.place (length bench.timeline.later - bench.timeline.place) known few)
+      ap (option_and_then of_counts) (counts-back f bench.depth bench.timeline.place (length bench.timeline.later - bench.timeline.place) known tells.depth valid.deep few)
       ∙ ap (option_and_then (of_schema counts)) (schema-back bench.schema valid.read)
       ∙ ap (option_and_then (λ b. lines_bench readings counts b js)) present-back
       ∙ lines-back
     where
       of_schema : Counts → Schema → Option Bench
-      of_schema c schema = option_and_then (λ b. lines_bench readings c b js) (present_in readings c.format schema (whole_object bench v))
+      of_schema c schema = option_and_then (λ b. lines_bench readings c b js) (present_in readings c.format c.depth schema (whole_object bench v))
 
       of_counts : Counts → Option Bench
       of_counts c = option_and_then (of_schema c) (schema_in bench.schema.source)
@@ -272,3 +289,6 @@ recorded_files_are_taken readings records t bench known file =
 recorded_files_are_taken readings parts t bench known file =
     ap (recorded_bench_in readings) file.text
     ∙ recorded-text-back readings parts known bench file.valid file.paths file.tells (subst (λ x. length x ≤ most_bench_bytes) file.text file.fits) file.spelled
+recorded_files_are_taken readings depths t bench known file =
+    ap (recorded_bench_in readings) file.text
+    ∙ recorded-text-back readings depths known bench file.valid file.paths file.tells (subst (λ x. length x ≤ most_bench_bytes) file.text file.fits) file.spelled

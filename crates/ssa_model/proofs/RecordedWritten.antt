@@ -1,5 +1,5 @@
 -- The lines of a bench file of records are those written of the bench that is taken from them, and its text is the bench's.
-use Rattle.std.proofs.Common.{◌≡◌, ℕ, ◌+◌, ◌-◌, ◌≤◌, length, List, [], ◌∷◌, ◌++◌, map, take, drop, Bool, true, false, ◌&&◌, Option, Some, None, option_and_then, refl, sym, ap, subst, ◌∙◌, eqb-true, arith, append_assoc, append-nil, length-append, length-drop}
+use Rattle.std.proofs.Common.{◌≡◌, ℕ, ◌+◌, ◌-◌, ◌≤◌, length, List, [], ◌∷◌, ◌++◌, map, take, drop, Bool, true, false, ◌&&◌, ◌||◌, Option, Some, None, option_and_then, refl, sym, ap, subst, ◌∙◌, eqb-true, arith, append_assoc, append-nil, length-append, length-drop}
 use Rattle.std.proofs.Math.Seq.{take-append_seam, drop-append_seam}
 use Rattle.std.proofs.lemmas.Bool.{and_parts}
 use Rattle.std.proofs.lemmas.List.Elements.{All-nil, All-cons, All-append}
@@ -14,18 +14,19 @@ use Rattle.ssa_model.specs.definitions.Commands.{value_in}
 use Rattle.ssa_model.specs.definitions.Schema.{Schema, read_schema}
 use Rattle.ssa_model.specs.definitions.Operations.{State}
 use Rattle.ssa_model.specs.definitions.History.{Label, Step, Bench, last_state, with_timeline}
-use Rattle.ssa_model.specs.definitions.Answers.{Fault, bench_of}
+use Rattle.ssa_model.specs.definitions.Answers.{Fault, bench_with}
 use Rattle.ssa_model.specs.definitions.Lines.{ended}
-use Rattle.ssa_model.specs.definitions.BenchText.{Format, records, parts, whole_object}
+use Rattle.ssa_model.specs.definitions.BenchText.{Format, records, parts, depths, whole_object}
 use Rattle.ssa_model.specs.definitions.RecordedBench.{record_head, record_line, past_lines, future_lines, recorded_values}
-use Rattle.ssa_model.specs.definitions.Formats.{can_tell_label, can_tell_state, can_tell_line, CanTellStep, CanTell}
+use Rattle.ssa_model.specs.definitions.Formats.{tells_depth, can_tell_depth, can_tell_label, can_tell_state, can_tell_line, CanTellStep, CanTell}
 use Rattle.ssa_model.specs.laws.BenchFiles.{text_lines, spelled_values, given_if, is_written_as, number_in, schema_in, label_in}
-use Rattle.ssa_model.specs.laws.RecordedBenches.{Counts, IsOfRecords, record_format, format_in, counts_in, present_in, led_state, is_move, move_to, move_in, told_move, past_in, future_in, with_moves, lines_bench, recorded_bench, TakenIsRecordedText}
+use Rattle.ssa_model.specs.laws.RecordedBenches.{Counts, IsOfRecords, record_format, format_in, depth_in, is_head, counts_in, present_in, led_state, is_move, move_to, move_in, told_move, past_in, future_in, with_moves, lines_bench, recorded_bench, TakenIsRecordedText}
 use Rattle.ssa_model.proofs.CompactTexts.{compact-injective}
 use Rattle.ssa_model.proofs.ToldParts.{line-told}
 use Rattle.ssa_model.proofs.Given.{given-back, tested-back, and_then-back, map-back}
 use Rattle.ssa_model.proofs.LoneBenches.{lone-parts}
 use Rattle.ssa_model.proofs.RecordedTaken.{future-many}
+use Rattle.ssa_model.proofs.TakenOfWritten.{nat-itself}
 use Rattle.ssa_model.proofs.SpelledValues.{text-of-values, lines-are-ended}
 use Rattle.ssa_model.proofs.Tables.{same_text-true}
 use Rattle.ssa_model.proofs.WrittenOfTaken.{schema-from}
@@ -33,28 +34,39 @@ use Rattle.ssa_model.proofs.WrittenOfTaken.{schema-from}
 -- ---- the head and the present object
 
 -- the counts that are taken of a head are those with which it is written
-pub counts-from : (v : Json) (c : Counts) → counts_in v ≡ Some c → (compact v ≡ compact (record_head c.format c.past c.future)) × IsOfRecords c.format
+-- their format is one of records, and can tell their depth
+pub record AreCounts (v : Json) (c : Counts) : Type 0 where
+  pub written : compact v ≡ compact (record_head c.format c.depth c.past c.future)
+  pub known : IsOfRecords c.format
+  pub deep : can_tell_depth c.format c.depth ≡ true
+
+pub counts-from : (v : Json) (c : Counts) → counts_in v ≡ Some c → AreCounts v c
 counts-from v c is =
     let format = and_then-back _ (format_in v) c is in
-    let past = and_then-back _ (number_in (member_at (codes "past") v)) c format.2 in
-    let future = and_then-back _ (number_in (member_at (codes "future") v)) c past.2 in
     let f = format.0 in
+    let depth = and_then-back _ (depth_in f v) c format.2 in
+    let past = and_then-back _ (number_in (member_at (codes "past") v)) c depth.2 in
+    let future = and_then-back _ (number_in (member_at (codes "future") v)) c past.2 in
     let numbered = and_then-back record_format (number_in (member_at (codes "format") v)) f format.1 in
-    let head = record_head f past.0 future.0 in
-    let own : Counts = record { format = f; past = past.0; future = future.0 } in
-    let got = given-back (is_written_as head v && nat_le (past.0 + future.0) most_past) own c future.2 in (
-      sym (same_text-true (compact head) (compact v) (and_parts (is_written_as head v) (nat_le (past.0 + future.0) most_past) got.0).0)
-          ∙ ap (λ (x : Counts). compact (record_head x.format x.past x.future)) got.1,
-      subst (λ (x : Counts). IsOfRecords x.format) got.1 (of-number numbered.0 f numbered.2),
-    )
+    let head = record_head f depth.0 past.0 future.0 in
+    let own : Counts = record { format = f; depth = depth.0; past = past.0; future = future.0 } in
+    let got = given-back (is_written_as head v && is_head depth.0 past.0 future.0) own c future.2 in
+    let written = sym (same_text-true (compact head) (compact v) (and_parts (is_written_as head v) (is_head depth.0 past.0 future.0) got.0).0) in
+    subst (AreCounts v) got.1
+    (record { written = written; known = of-number numbered.0 f numbered.2; deep = told-depth (tells_depth f) depth.0 depth.1 })
   where
+    told-depth : (b : Bool) (n : ℕ) → (if b then number_in (member_at (codes "depth") v) else Some most_past) ≡ Some n → (b || (n == most_past)) ≡ true
+    told-depth true n h = refl
+    told-depth false n h = ap (λ m. m == most_past) (sym (same_Some most_past n h)) ∙ nat-itself most_past
+
     of-number : (n : ℕ) (f : Format) → record_format n ≡ Some f → IsOfRecords f
-    of-number n f h = by (n == 2) (n == 3) h
+    of-number n f h = by (n == 2) (n == 3) (n == 4) h
       where
-        by : (a b : Bool) → (if a then Some records else (if b then Some parts else None)) ≡ Some f → IsOfRecords f
-        by true b e = subst IsOfRecords (same_Some records f e) refl
-        by false true e = subst IsOfRecords (same_Some parts f e) refl
-        by false false e = absurd (none-some f e)
+        by : (a b c : Bool) → (if a then Some records else (if b then Some parts else (if c then Some depths else None))) ≡ Some f → IsOfRecords f
+        by true b c e = subst IsOfRecords (same_Some records f e) refl
+        by false true c e = subst IsOfRecords (same_Some parts f e) refl
+        by false false true e = subst IsOfRecords (same_Some depths f e) refl
+        by false false false e = absurd (none-some f e)
 
 -- the bench that is taken of a present object is made from it, and the object's text is the one that is written of the bench
 pub present-from : (v : Json) (f : Format) (r : Result Bench Fault) (now : Bench)
@@ -187,10 +199,10 @@ module _ (readings : Readings) (head source shown : Json) (js : List Json) (benc
     pub counts : Counts
     pub counted : counts_in head ≡ Some counts
     pub is : map compact (head ∷ source ∷ shown ∷ js) ≡ map compact (recorded_values counts.format bench)
-    pub tells : CanTell counts.format bench.timeline
+    pub tells : CanTell counts.format bench
 
   by-moves : (c : Counts) (schema : Schema) (now : Bench) (past : State × List Step) (future : List Step)
-      → counts_in head ≡ Some c → schema_in source ≡ Some schema → present_in readings c.format schema shown ≡ Some now
+      → counts_in head ≡ Some c → schema_in source ≡ Some schema → present_in readings c.format c.depth schema shown ≡ Some now
       → past_in readings c.format now now.timeline.first (take c.past js) [] ≡ Some past
       → future_in readings c.format now now.timeline.first (drop c.past js) ≡ Some future → with_moves c now js past future ≡ Some bench → Written
   by-moves c schema now past future counted schemed there backed ahead is =
@@ -199,7 +211,7 @@ module _ (readings : Readings) (head source shown : Json) (js : List Json) (benc
       let made = with_timeline now (record { first = past.0; later = later; place = c.past }) in
       let got = given-back (length js == c.past + c.future) made bench is in
       let all = eqb-true (length js) (c.past + c.future) got.0 in
-      let object_is = present-from shown c.format (bench_of readings schema shown) now there in
+      let object_is = present-from shown c.format (bench_with readings c.depth schema shown) now there in
       let back = past-from readings c.format now v (take c.past js) [] past object_is.2 backed in
       let on = future-from readings c.format now v (drop c.past js) future object_is.2 ahead in
       let same = sym (append-nil back.steps) ∙ back.all in
@@ -212,8 +224,10 @@ module _ (readings : Readings) (head source shown : Json) (js : List Json) (benc
       let left = length-drop c.past js in
       let both = length-append past.1 future in
       let count : length later - c.past ≡ c.future = omega (arith, all, many, ahead_many, left, both) in
-      let head_is = (counts-from head c counted).0 ∙ ap (λ n. compact (record_head c.format c.past n)) (sym count) in
-      let schema_is = (lone-parts readings schema shown now object_is.0).schema_is in
+      let parts = lone-parts readings c.depth schema shown now object_is.0 in
+      let own = counts-from head c counted in
+      let head_is = own.written ∙ (λ i. compact (record_head c.format (parts.depth_is i) c.past (sym count i))) in
+      let schema_is = parts.schema_is in
       let source_is = schema-from source (read_schema source) schema schemed ∙ ap (λ (x : Schema). x.source) schema_is in
       let shown_is = object_is.1 ∙ ap (λ w. compact (whole_object now w)) (sym now_is) in
       let lines_are =
@@ -224,25 +238,26 @@ module _ (readings : Readings) (head source shown : Json) (js : List Json) (benc
       let written : map compact (head ∷ source ∷ shown ∷ js) ≡ map compact (recorded_values c.format made) =
       λ i. head_is i ∷ compact (source_is i) ∷ shown_is i ∷ lines_are i in
       let steps_tell = All-append (CanTellStep c.format) past.1 future (subst (All (CanTellStep c.format)) same back.tells) on.1 in
-      let tells : CanTell c.format made.timeline = record { first = back.first_tells; later = steps_tell } in
+      let deep = ap (can_tell_depth c.format) (sym parts.depth_is) ∙ own.deep in
+      let tells : CanTell c.format made = record { depth = deep; first = back.first_tells; later = steps_tell } in
       record {
         counts = c;
         counted = counted;
         is = written ∙ ap (λ b. map compact (recorded_values c.format b)) got.1;
-        tells = subst (λ (b : Bench). CanTell c.format b.timeline) got.1 tells;
+        tells = subst (CanTell c.format) got.1 tells;
       }
 
   abbrev of_now : Counts → Bench → Option Bench
   of_now c now = lines_bench readings c now js
 
   abbrev of_schema : Counts → Schema → Option Bench
-  of_schema c schema = option_and_then (of_now c) (present_in readings c.format schema shown)
+  of_schema c schema = option_and_then (of_now c) (present_in readings c.format c.depth schema shown)
 
   abbrev of_counts : Counts → Option Bench
   of_counts c = option_and_then (of_schema c) (schema_in source)
 
   by-now : (c : Counts) (schema : Schema) (now : Bench)
-      → counts_in head ≡ Some c → schema_in source ≡ Some schema → present_in readings c.format schema shown ≡ Some now → of_now c now ≡ Some bench → Written
+      → counts_in head ≡ Some c → schema_in source ≡ Some schema → present_in readings c.format c.depth schema shown ≡ Some now → of_now c now ≡ Some bench → Written
   by-now c schema now counted schemed there is =
       let v = now.timeline.first in
       let of_past = λ (past : State × List Step). option_and_then (with_moves c now js past) (future_in readings c.format now v (drop c.past js)) in
@@ -252,7 +267,7 @@ module _ (readings : Readings) (head source shown : Json) (js : List Json) (benc
 
   by-schema : (c : Counts) (schema : Schema) → counts_in head ≡ Some c → schema_in source ≡ Some schema → of_schema c schema ≡ Some bench → Written
   by-schema c schema counted schemed is =
-      let got = and_then-back (of_now c) (present_in readings c.format schema shown) bench is in
+      let got = and_then-back (of_now c) (present_in readings c.format c.depth schema shown) bench is in
       by-now c schema got.0 counted schemed got.1 got.2
 
   by-counts : (c : Counts) → counts_in head ≡ Some c → of_counts c ≡ Some bench → Written
@@ -281,7 +296,7 @@ pub record IsWritten (vs : List Json) (bench : Bench) : Type 0 where
   -- the texts are those of what is written of the bench
   pub is : map compact vs ≡ map compact (recorded_values counts.format bench)
   -- the format can tell of the bench
-  pub tells : CanTell counts.format bench.timeline
+  pub tells : CanTell counts.format bench
 
 pub recorded-written : (readings : Readings) (vs : List Json) (bench : Bench) → recorded_bench readings vs ≡ Some bench → IsWritten vs bench
 recorded-written readings [] bench is = absurd (none-some bench is)
@@ -300,7 +315,7 @@ taken_is_recorded_text readings t bench is =
     let written = recorded-written readings values.0 bench values.2 in
     let f = written.counts.format in (
       f,
-      (counts-from written.head written.counts written.counted).1,
+      (counts-from written.head written.counts written.counted).known,
       text-of-values readings t ls.0 values.0 ls.1 ls.2 ∙ lines-are-ended values.0
           ∙ ap ended written.is ∙ sym (lines-are-ended (recorded_values f bench)),
     )

@@ -5,7 +5,7 @@ use Rattle.std.proofs.lemmas.Bool.Decides.{nat_tests}
 use Rattle.std.proofs.lemmas.List.{drop_all, length-take-le, take-append-drop, take_all}
 use Rattle.std.proofs.lemmas.Option.{same_Some, none-some}
 use Rattle.std.specs.Prelude.{◌==◌, if◌then◌else◌, nat_le, Result, Ok, Err}
-use Rattle.ssa_model.specs.definitions.Answers.{bench_of}
+use Rattle.ssa_model.specs.definitions.Answers.{bench_with}
 use Rattle.ssa_model.specs.definitions.Json.{Text, Json}
 use Rattle.ssa_model.specs.definitions.Limits.{most_bench_bytes}
 use Rattle.ssa_model.specs.definitions.Operations.{State}
@@ -310,10 +310,10 @@ module _ (readings : Readings) (now : Bench) (alone : now.timeline ≡ standing_
 -- ---- the whole file
 
 -- a present object makes a bench of one state
-present-alone : (readings : Readings) (f : Format) (schema : Schema) (v : Json) (now : Bench) → present_in readings f schema v ≡ Some now
+present-alone : (readings : Readings) (f : Format) (depth : ℕ) (schema : Schema) (v : Json) (now : Bench) → present_in readings f depth schema v ≡ Some now
     → now.timeline ≡ standing_after 0 now.timeline.first []
-present-alone readings f schema v now is =
-    let made = lone-parts readings schema v now (present-from v f (bench_of readings schema v) now is).0 in
+present-alone readings f depth schema v now is =
+    let made = lone-parts readings depth schema v now (present-from v f (bench_with readings depth schema v) now is).0 in
     made.alone
 
 -- what is taken of no more bytes than a file may have comes of so few
@@ -331,7 +331,7 @@ module _ (readings : Readings) where
 
   -- what is read behind the schema: the present object, and what follows it
   abbrev pub after_source : Counts → Schema → List ℕ → ℕ → Result Bench MoveFault
-  after_source counts schema = with_part readings (present_in readings counts.format schema) (after_now counts)
+  after_source counts schema = with_part readings (present_in readings counts.format counts.depth schema) (after_now counts)
 
   -- what is read behind the head: the schema, and what follows it
   abbrev pub after_head : Counts → List ℕ → ℕ → Result Bench MoveFault
@@ -345,7 +345,7 @@ module _ (readings : Readings) where
   of_now counts js b = lines_bench readings counts b js
 
   abbrev of_schema : Counts → Json → List Json → Schema → Option Bench
-  of_schema counts now js schema = option_and_then (of_now counts js) (present_in readings counts.format schema now)
+  of_schema counts now js schema = option_and_then (of_now counts js) (present_in readings counts.format counts.depth schema now)
 
   abbrev of_counts : Json → Json → List Json → Counts → Option Bench
   of_counts source now js counts = option_and_then (of_schema counts now js) (schema_in source)
@@ -354,8 +354,8 @@ module _ (readings : Readings) where
   file-taken t bench is =
       let a = part-went readings counts_in after_head t most_bench_bytes bench is in
       let b = part-went readings schema_in (after_source a.taken) a.ys a.left bench a.done in
-      let c = part-went readings (present_in readings a.taken.format b.taken) (after_now a.taken) b.ys b.left bench b.done in
-      let d = lines-read readings c.taken (present-alone readings a.taken.format b.taken c.value c.taken c.took) a.taken c.ys c.left bench c.done in
+      let c = part-went readings (present_in readings a.taken.format a.taken.depth b.taken) (after_now a.taken) b.ys b.left bench b.done in
+      let d = lines-read readings c.taken (present-alone readings a.taken.format a.taken.depth b.taken c.value c.taken c.took) a.taken c.ys c.left bench c.done in
       let first = a.counted in
       let second = b.counted in
       let third = c.counted in
@@ -380,12 +380,12 @@ module _ (readings : Readings) where
   values-taken t bench (head ∷ source ∷ now ∷ js) values small is =
       let counts = and_then-back (of_counts source now js) (counts_in head) bench is in
       let schema = and_then-back (of_schema counts.0 now js) (schema_in source) bench counts.2 in
-      let there = and_then-back (of_now counts.0 js) (present_in readings counts.0.format schema.0 now) bench schema.2 in
+      let there = and_then-back (of_now counts.0 js) (present_in readings counts.0.format counts.0.depth schema.0 now) bench schema.2 in
       let a = part-reaches readings counts_in after_head t most_bench_bytes head (source ∷ now ∷ js) counts.0 values small counts.1 in
       let b = part-reaches readings schema_in (after_source counts.0) a.ys a.left source (now ∷ js) schema.0 a.values a.fits schema.1 in
-      let c = part-reaches readings (present_in readings counts.0.format schema.0) (after_now counts.0) b.ys b.left now js there.0 b.values b.fits there.1 in
+      let c = part-reaches readings (present_in readings counts.0.format counts.0.depth schema.0) (after_now counts.0) b.ys b.left now js there.0 b.values b.fits there.1 in
       a.is ∙ b.is ∙ c.is
-      ∙ lines-found readings there.0 (present-alone readings counts.0.format schema.0 now there.0 there.1) counts.0 c.ys c.left js bench there.2 c.values
+      ∙ lines-found readings there.0 (present-alone readings counts.0.format counts.0.depth schema.0 now there.0 there.1) counts.0 c.ys c.left js bench there.2 c.values
       c.fits
 
   file-found : (t : Text) (bench : Bench) → recorded_bench_in readings t ≡ Some bench → recorded_from t most_bench_bytes ≡ Ok bench
@@ -408,7 +408,7 @@ module _ (readings : Readings) where
   not-opened (a ∷ b ∷ c ∷ ts) f none is = ap (of_opening ts) (none a b c ts refl) ∙ is
 
   abbrev opened_now : Counts → Text → Schema → Option (Counts × Bench)
-  opened_now counts c schema = option_map (λ (x : Bench). (counts, x)) (part_of readings (present_in readings counts.format schema) c)
+  opened_now counts c schema = option_map (λ (x : Bench). (counts, x)) (part_of readings (present_in readings counts.format counts.depth schema) c)
 
   abbrev opened_schema : Text → Text → Counts → Option (Counts × Bench)
   opened_schema b c counts = option_and_then (opened_now counts c) (part_of readings schema_in b)
@@ -421,19 +421,19 @@ module _ (readings : Readings) where
     Fails = texts_fault readings all_lines ≡ f
 
     after-all : (a : FailsBehind readings counts_in after_head t most_bench_bytes f) → (b : FailsBehind readings schema_in (after_source a.taken) a.ys a.left f)
-        → (c : FailsBehind readings (present_in readings a.taken.format b.taken) (after_now a.taken) b.ys b.left f)
-        → (there : (v : Json) × (present_in readings a.taken.format b.taken v ≡ Some c.taken)) → Fails
+        → (c : FailsBehind readings (present_in readings a.taken.format a.taken.depth b.taken) (after_now a.taken) b.ys b.left f)
+        → (there : (v : Json) × (present_in readings a.taken.format a.taken.depth b.taken v ≡ Some c.taken)) → Fails
     after-all a b c there =
         let lines = a.lines ∙ ap (λ us. a.text ∷ us) (b.lines ∙ ap (λ us. b.text ∷ us) c.lines) in
         let opened : opening_in readings a.text b.text c.text ≡ Some (a.taken, c.taken) =
         ap (option_and_then (opened_schema b.text c.text)) a.took ∙ ap (option_and_then (opened_now a.taken c.text)) b.took
         ∙ ap (option_map (λ (x : Bench). (a.taken, x))) c.took in
         ap (texts_fault readings) lines ∙ ap (of_opening (lines_left c.ys c.left)) opened
-        ∙ lines-fail readings c.taken (present-alone readings a.taken.format b.taken there.0 c.taken there.1) a.taken c.ys c.left f c.failed
+        ∙ lines-fail readings c.taken (present-alone readings a.taken.format a.taken.depth b.taken there.0 c.taken there.1) a.taken c.ys c.left f c.failed
 
     after-two : (a : FailsBehind readings counts_in after_head t most_bench_bytes f) → (b : FailsBehind readings schema_in (after_source a.taken) a.ys a.left f)
-        → PartFails readings (present_in readings a.taken.format b.taken) (after_now a.taken) b.ys b.left f
-        ⊎ FailsBehind readings (present_in readings a.taken.format b.taken) (after_now a.taken) b.ys b.left f → Fails
+        → PartFails readings (present_in readings a.taken.format a.taken.depth b.taken) (after_now a.taken) b.ys b.left f
+        ⊎ FailsBehind readings (present_in readings a.taken.format a.taken.depth b.taken) (after_now a.taken) b.ys b.left f → Fails
     after-two a b (inl none) = not-opened all_lines f (λ x y z us e.
         let rest = same-tail a.text x (lines_left a.ys a.left) (y ∷ z ∷ us) (sym a.lines ∙ e) in
         let last = same-tail b.text y (lines_left b.ys b.left) (z ∷ us) (sym b.lines ∙ rest) in
@@ -444,7 +444,7 @@ module _ (readings : Readings) where
         ∙ ap (option_and_then (opened_now a.taken z)) b.took
         ∙ ap (option_map (λ (x : Bench). (a.taken, x))) (none.none z us last)) none.fault
     after-two a b (inr c) =
-        let spelled = and_then-back (present_in readings a.taken.format b.taken) (spelled_value readings c.text) c.taken c.took in
+        let spelled = and_then-back (present_in readings a.taken.format a.taken.depth b.taken) (spelled_value readings c.text) c.taken c.took in
         after-all a b c (spelled.0, spelled.2)
 
     after-one : (a : FailsBehind readings counts_in after_head t most_bench_bytes f)
@@ -454,7 +454,7 @@ module _ (readings : Readings) where
         ap (λ w. opening_in readings w y z) (sym (same-first a.text x (lines_left a.ys a.left) (y ∷ z ∷ us) (sym a.lines ∙ e)))
         ∙ ap (option_and_then (opened_schema y z)) a.took
         ∙ ap (option_and_then (opened_now a.taken z)) (none.none y (z ∷ us) rest)) none.fault
-    after-one a (inr b) = after-two a b (part-fault readings (present_in readings a.taken.format b.taken) (after_now a.taken) b.ys b.left f b.failed)
+    after-one a (inr b) = after-two a b (part-fault readings (present_in readings a.taken.format a.taken.depth b.taken) (after_now a.taken) b.ys b.left f b.failed)
 
     after-none : PartFails readings counts_in after_head t most_bench_bytes f ⊎ FailsBehind readings counts_in after_head t most_bench_bytes f → Fails
     after-none (inl none) = not-opened all_lines f (λ x y z us e. ap (option_and_then (opened_schema y z)) (none.none x (y ∷ z ∷ us) e)) none.fault

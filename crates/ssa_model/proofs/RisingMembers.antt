@@ -20,7 +20,7 @@ below-apart n m up =
     ] refl
 
 -- a name below the first of rising names is none of them
-missing-below : (n : Text) (ms : Members) → is_below n ms ≡ true → members_rise ms ≡ true → is_missing (member_of n ms) ≡ true
+pub missing-below : (n : Text) (ms : Members) → is_below n ms ≡ true → members_rise ms ≡ true → is_missing (member_of n ms) ≡ true
 missing-below n no_members up rise = refl
 missing-below n (member m v ms) up rise =
     let behind = second_so (is_below m ms) (has_rising_names v && members_rise ms) rise in

@@ -1,5 +1,5 @@
 -- The object that is shown of a body is taken as that body.
-use Rattle.std.proofs.Common.{◌≡◌, List, [], ◌∷◌, ◌++◌, Bool, true, false, cond, not, ◌&&◌, ◌||◌, Option, Some, None, option_map, option_and_then, refl, sym, ap, ◌∙◌, subst, true≢false}
+use Rattle.std.proofs.Common.{ℕ, ◌≡◌, List, [], ◌∷◌, ◌++◌, Bool, true, false, cond, not, ◌&&◌, ◌||◌, Option, Some, None, option_map, option_and_then, refl, sym, ap, ◌∙◌, subst, true≢false}
 use Rattle.std.proofs.lemmas.Option.{none-some}
 use Rattle.std.specs.Prelude.{if◌then◌else◌, codes, Ok, Err}
 use Rattle.std.specs.List.{list_any}
@@ -7,6 +7,7 @@ use Rattle.std.specs.Ordering.{is_eq, is_lt, nat_cmp}
 use Rattle.std.specs.Cmp.{first_so, second_so}
 use Rattle.std.specs.Cmp.Lexicographic.{slice_cmp}
 use Rattle.std.specs.declared.cmp.Ordering.TheVariants.{Less, Equal, Greater}
+use Rattle.ssa_model.specs.definitions.Limits.{most_past}
 use Rattle.ssa_model.specs.definitions.Json.{Text, text, Json, scalar, object, Members, no_members, member, member_of, same_text}
 use Rattle.ssa_model.specs.definitions.Path.{field, Path}
 use Rattle.ssa_model.specs.definitions.PathMap.{has, from_entries}
@@ -20,7 +21,7 @@ use Rattle.ssa_model.specs.definitions.GivenEntries.{table_of}
 use Rattle.ssa_model.specs.definitions.Readings.{Readings}
 use Rattle.ssa_model.specs.definitions.Schema.{Schema}
 use Rattle.ssa_model.specs.definitions.History.{Bench}
-use Rattle.ssa_model.specs.definitions.Answers.{identity_fault, managed_fields_given, has_identity, gives_managed_fields, body_or_fault, command_body, names_itself, with_lone_state, with_table, given_table, file_state, bench_of, lone_state}
+use Rattle.ssa_model.specs.definitions.Answers.{identity_fault, managed_fields_given, has_identity, gives_managed_fields, body_or_fault, command_body, names_itself, with_lone_state, with_table, given_table, file_state, bench_with, lone_bench}
 use Rattle.ssa_model.specs.laws.ShownObjects.{IsShownBody, ShownMakesBench, ShownIsCommands}
 use Rattle.ssa_model.specs.definitions.Valid.{metadata_path}
 use Rattle.ssa_model.proofs.EmptyMetadata.{record-in, metadata_stays}
@@ -411,15 +412,15 @@ module _ (fs : Fields) (b : Body) (a : IsSchemaKind (record_of fs)) (v k n : Tex
 
 -- ---- the laws
 
-abbrev Makes : Readings → Schema → Body → Identity → Type 0
-Makes readings schema body i =
-    bench_of readings schema (object_of_body i schema.kind body)
-    ≡ Ok (record { schema = schema; identity = i; timeline = lone_state (record { body = body; table = [] }) })
+abbrev Makes : Readings → ℕ → Schema → Body → Identity → Type 0
+Makes readings depth schema body i =
+    bench_with readings depth schema (object_of_body i schema.kind body)
+    ≡ Ok (lone_bench depth schema i (record { body = body; table = [] }))
 
-makes-record : (readings : Readings) (value : Json) (fs : Fields) (body : Body) → IsShownBody (record_of fs) body → (v k n : Text) (ns : Option Json)
+makes-record : (readings : Readings) (depth : ℕ) (value : Json) (fs : Fields) (body : Body) → IsShownBody (record_of fs) body → (v k n : Text) (ns : Option Json)
     → is_identity (parts v k n ns) ≡ true
-    → Makes readings (record { source = value; kind = record_of fs }) body (parts v k n ns)
-makes-record readings value fs body s v k n ns h =
+    → Makes readings depth (record { source = value; kind = record_of fs }) body (parts v k n ns)
+makes-record readings depth value fs body s v k n ns h =
     let obj = object (members fs body s.accepted v k n ns) in
     let identity = identity-is fs body s.accepted v k n ns in
     let named : names_itself obj ≡ true = (λ i. is-object fs body s.accepted v k n ns i && is_identity (identity i)) ∙ h in
@@ -429,21 +430,26 @@ makes-record readings value fs body s v k n ns h =
     ∙ ap
     (λ o. with_table body (elim o [ None ↦ Ok [] | Some entries ↦ table_of readings body (text_in (value_at (codes "apiVersion" ∷ []) obj)) entries ]))
     (no-entries fs body s.accepted v k n ns) in
-    ap (λ t. if not t then Err identity_fault else with_lone_state (record { source = value; kind = record_of fs }) (identity_of obj)
+    ap (λ t. if not t then Err identity_fault else with_lone_state depth (record { source = value; kind = record_of fs }) (identity_of obj)
     (file_state readings (record_of fs) obj)) named
-    ∙ (λ i. with_lone_state (record { source = value; kind = record_of fs }) (identity i) (state i))
+    ∙ (λ i. with_lone_state depth (record { source = value; kind = record_of fs }) (identity i) (state i))
 
-makes-any : (readings : Readings) (value : Json) (kd : Kind) (identity : Identity) (body : Body) → is_identity identity ≡ true → IsShownBody kd body
-    → Makes readings (record { source = value; kind = kd }) body identity
-makes-any readings value (kinds.record_of fs) identity body h s =
+makes-any : (readings : Readings) (depth : ℕ) (value : Json) (kd : Kind) (identity : Identity) (body : Body) → is_identity identity ≡ true → IsShownBody kd body
+    → Makes readings depth (record { source = value; kind = kd }) body identity
+makes-any readings depth value (kinds.record_of fs) identity body h s =
     let p = identity-parts identity h in
-    subst (Makes readings (record { source = value; kind = record_of fs }) body) (sym p.is)
-    (makes-record readings value fs body s p.version p.kind p.name p.namespace (ap is_identity (sym p.is) ∙ h))
-makes-any readings value _ identity body h s = absurd (true≢false (sym s.accepted.lawful))
+    subst (Makes readings depth (record { source = value; kind = record_of fs }) body) (sym p.is)
+    (makes-record readings depth value fs body s p.version p.kind p.name p.namespace (ap is_identity (sym p.is) ∙ h))
+makes-any readings depth value _ identity body h s = absurd (true≢false (sym s.accepted.lawful))
 
 -- an object file with the object that is shown of a body makes the bench of that body, without managers
 pub shown_makes_bench : ShownMakesBench
-shown_makes_bench readings schema identity body h s = makes-any readings schema.source schema.kind identity body h s
+shown_makes_bench readings schema identity body h s = makes-any readings most_past schema.source schema.kind identity body h s
+
+-- of whatever depth
+pub shown_makes_deep : (readings : Readings) (depth : ℕ) (schema : Schema) (identity : Identity) (body : Body) → is_identity identity ≡ true → IsShownBody schema.kind body
+    → bench_with readings depth schema (object_of_body identity schema.kind body) ≡ Ok (lone_bench depth schema identity (record { body = body; table = [] }))
+shown_makes_deep readings depth schema identity body h s = makes-any readings depth schema.source schema.kind identity body h s
 
 takes-record : (bench : Bench) (fs : Fields) (body : Body) → bench.schema.kind ≡ record_of fs → IsShownBody (record_of fs) body
     → (v k n : Text) (ns : Option Json) → is_identity (parts v k n ns) ≡ true

@@ -1,6 +1,7 @@
 -- The object that is shown of a state, with its managers' entries, is taken as that state.
-use Rattle.std.proofs.Common.{◌≡◌, [], ◌∷◌, true, not, ◌&&◌, Option, Some, None, option_and_then, refl, sym, ap, ◌∙◌, subst, true≢false}
+use Rattle.std.proofs.Common.{ℕ, ◌≡◌, [], ◌∷◌, true, not, ◌&&◌, Option, Some, None, option_and_then, refl, sym, ap, ◌∙◌, subst, true≢false}
 use Rattle.std.specs.Prelude.{if◌then◌else◌, codes, Ok, Err}
+use Rattle.ssa_model.specs.definitions.Limits.{most_past}
 use Rattle.ssa_model.specs.definitions.Json.{Text, text, Json, scalar, list, object, Members, member_of}
 use Rattle.ssa_model.specs.definitions.Kind as kinds
 use Rattle.ssa_model.specs.definitions.Kind.{Kind, Fields, record_of}
@@ -14,13 +15,13 @@ use Rattle.ssa_model.specs.definitions.Operations.{State}
 use Rattle.ssa_model.specs.definitions.Readings.{Readings}
 use Rattle.ssa_model.specs.definitions.Table.{Entry, Table}
 use Rattle.ssa_model.specs.definitions.Schema.{Schema}
-use Rattle.ssa_model.specs.definitions.Answers.{identity_fault, body_or_fault, names_itself, with_lone_state, with_table, given_table, file_state, bench_of, lone_state}
+use Rattle.ssa_model.specs.definitions.Answers.{identity_fault, body_or_fault, names_itself, with_lone_state, with_table, given_table, file_state, bench_with, lone_bench}
 use Rattle.ssa_model.specs.laws.ShownObjects.{IsShownBody}
 use Rattle.ssa_model.specs.definitions.BenchFile.{IsReadBack}
 use Rattle.ssa_model.specs.laws.ShownStates.{ShownStateIsTaken}
 use Rattle.ssa_model.specs.definitions.Valid.{AllEntries, IsTable, IsValidState}
 use Rattle.ssa_model.proofs.PutMembers.{metadata, rise, put-found, put-other, put-twice, without-put, without-keeps, rise-put, in-metadata}
-use Rattle.ssa_model.proofs.ShownObjects.{root_names, parts, file_out, identity-parts, shown-rise, of_metadata, hs, ordered, apart-root, apart-file, members, inside, with_kind, bare-is, stripped-is, bare_value, bare-taken, version-there, kind-there, metadata-there, name-there, namespace-there, itself, shown_makes_bench}
+use Rattle.ssa_model.proofs.ShownObjects.{root_names, parts, file_out, identity-parts, shown-rise, of_metadata, hs, ordered, apart-root, apart-file, members, inside, with_kind, bare-is, stripped-is, bare_value, bare-taken, version-there, kind-there, metadata-there, name-there, namespace-there, itself, shown_makes_deep}
 use Rattle.ssa_model.proofs.TablesBack.{table-back}
 
 module _ (fs : Fields) (b : Body) (a : IsSchemaKind (record_of fs)) (v k n : Text) (ns : Option Json) (entries : Json) where
@@ -113,48 +114,49 @@ module _ (fs : Fields) (b : Body) (s : IsShownBody (record_of fs) b) (v k n : Te
       ∙ ap (λ o. with_table b (table_of readings b (text_in (option_and_then (value_at []) o)) own)) (full-version fs b s.accepted v k n ns own)
       ∙ ap (with_table b) (table-back readings b v (e ∷ es) t back)
 
-  bench-is : (readings : Readings) (value : Json) → IsTable b (e ∷ es) → AllEntries (IsReadBack readings) (e ∷ es) → is_identity (parts v k n ns) ≡ true
-      → bench_of readings (record { source = value; kind = record_of fs })
+  bench-is : (readings : Readings) (depth : ℕ) (value : Json) → IsTable b (e ∷ es) → AllEntries (IsReadBack readings) (e ∷ es) → is_identity (parts v k n ns) ≡ true
+      → bench_with readings depth (record { source = value; kind = record_of fs })
       (object_of_state (parts v k n ns) (record_of fs) true (record { body = b; table = e ∷ es }))
-      ≡ Ok (record {
-        schema = record { source = value; kind = record_of fs };
-        identity = parts v k n ns;
-        timeline = lone_state (record { body = b; table = e ∷ es });
-      })
-  bench-is readings value t back h =
+      ≡ Ok (lone_bench depth (record { source = value; kind = record_of fs }) (parts v k n ns) (record { body = b; table = e ∷ es }))
+  bench-is readings depth value t back h =
       let obj = object (full fs b s.accepted v k n ns own) in
       let identity = full-identity fs b s.accepted v k n ns own in
       let named : names_itself obj ≡ true = (λ i. full-object fs b s.accepted v k n ns own i && is_identity (identity i)) ∙ h in
-      ap (bench_of readings (record { source = value; kind = record_of fs })) (shown-is fs b s.accepted v k n ns e es)
-      ∙ ap (λ t. if not t then Err identity_fault else with_lone_state (record { source = value; kind = record_of fs }) (identity_of obj)
+      ap (bench_with readings depth (record { source = value; kind = record_of fs })) (shown-is fs b s.accepted v k n ns e es)
+      ∙ ap (λ t. if not t then Err identity_fault else with_lone_state depth (record { source = value; kind = record_of fs }) (identity_of obj)
       (file_state readings (record_of fs) obj)) named
-      ∙ (λ i. with_lone_state (record { source = value; kind = record_of fs }) (identity i) (state-is readings t back i))
+      ∙ (λ i. with_lone_state depth (record { source = value; kind = record_of fs }) (identity i) (state-is readings t back i))
 
 -- ---- the law
 
-abbrev Taken : Readings → Schema → State → Identity → Type 0
-Taken readings schema state i = bench_of readings schema (object_of_state i schema.kind true state)
-    ≡ Ok (record { schema = schema; identity = i; timeline = lone_state state })
+abbrev Taken : Readings → ℕ → Schema → State → Identity → Type 0
+Taken readings depth schema state i = bench_with readings depth schema (object_of_state i schema.kind true state) ≡ Ok (lone_bench depth schema i state)
 
 body-of : (kind : Kind) (state : State) → IsSchemaKind kind → IsValidState kind state → IsShownBody kind state.body
 body-of kind state accepted valid = record { accepted = accepted; fits = valid.fits; rooted = valid.rooted; few = valid.few }
 
-by-table : (readings : Readings) (value : Json) (fs : Fields) (identity : Identity) (body : Body) (table : Table)
+by-table : (readings : Readings) (depth : ℕ) (value : Json) (fs : Fields) (identity : Identity) (body : Body) (table : Table)
     → is_identity identity ≡ true → IsShownBody (record_of fs) body → IsTable body table → AllEntries (IsReadBack readings) table
-    → Taken readings (record { source = value; kind = record_of fs }) (record { body = body; table = table }) identity
-by-table readings value fs identity body [] h s t back = shown_makes_bench readings (record { source = value; kind = record_of fs }) identity body h s
-by-table readings value fs identity body (e ∷ es) h s t back =
+    → Taken readings depth (record { source = value; kind = record_of fs }) (record { body = body; table = table }) identity
+by-table readings depth value fs identity body [] h s t back = shown_makes_deep readings depth (record { source = value; kind = record_of fs }) identity body h s
+by-table readings depth value fs identity body (e ∷ es) h s t back =
     let p = identity-parts identity h in
-    subst (Taken readings (record { source = value; kind = record_of fs }) (record { body = body; table = e ∷ es })) (sym p.is)
-    (bench-is fs body s p.version p.kind p.name p.namespace e es readings value t back (ap is_identity (sym p.is) ∙ h))
+    subst (Taken readings depth (record { source = value; kind = record_of fs }) (record { body = body; table = e ∷ es })) (sym p.is)
+    (bench-is fs body s p.version p.kind p.name p.namespace e es readings depth value t back (ap is_identity (sym p.is) ∙ h))
 
-by-kind : (readings : Readings) (value : Json) (kind : Kind) (identity : Identity) (state : State) → is_identity identity ≡ true → IsSchemaKind kind
+by-kind : (readings : Readings) (depth : ℕ) (value : Json) (kind : Kind) (identity : Identity) (state : State) → is_identity identity ≡ true → IsSchemaKind kind
     → IsValidState kind state → AllEntries (IsReadBack readings) state.table
-    → Taken readings (record { source = value; kind = kind }) state identity
-by-kind readings value (kinds.record_of fs) identity state h accepted valid back =
-    by-table readings value fs identity state.body state.table h (body-of (record_of fs) state accepted valid) valid.table back
-by-kind readings value _ identity state h accepted valid back = absurd (true≢false (sym accepted.lawful))
+    → Taken readings depth (record { source = value; kind = kind }) state identity
+by-kind readings depth value (kinds.record_of fs) identity state h accepted valid back =
+    by-table readings depth value fs identity state.body state.table h (body-of (record_of fs) state accepted valid) valid.table back
+by-kind readings depth value _ identity state h accepted valid back = absurd (true≢false (sym accepted.lawful))
 
 -- an object file with the object of a valid state, whose entries are read back, makes the bench of that state
 pub shown_state_is_taken : ShownStateIsTaken
-shown_state_is_taken readings schema = by-kind readings schema.source schema.kind
+shown_state_is_taken readings schema = by-kind readings most_past schema.source schema.kind
+
+-- of whatever depth
+pub shown_state_is_deep : (readings : Readings) (depth : ℕ) (schema : Schema) (identity : Identity) (state : State)
+    → is_identity identity ≡ true → IsSchemaKind schema.kind → IsValidState schema.kind state → AllEntries (IsReadBack readings) state.table
+    → Taken readings depth schema state identity
+shown_state_is_deep readings depth schema = by-kind readings depth schema.source schema.kind

@@ -5,7 +5,7 @@ use Rattle.std.proofs.lemmas.Option.{same_Some, none-some}
 use Rattle.std.specs.Prelude.{◌==◌, if◌then◌else◌, nat_le, Result, Ok, Err}
 use Rattle.ssa_model.specs.definitions.Answers.{bench_of}
 use Rattle.ssa_model.specs.definitions.Json.{Text, Json}
-use Rattle.ssa_model.specs.definitions.Limits.{most_bench_bytes}
+use Rattle.ssa_model.specs.definitions.Limits.{most_past, most_bench_bytes}
 use Rattle.ssa_model.specs.definitions.Operations.{State}
 use Rattle.ssa_model.specs.definitions.Readings.{Readings}
 use Rattle.ssa_model.specs.definitions.Schema.{Schema}
@@ -166,7 +166,7 @@ steps-fail readings go (suc n) b xs room f behind is =
 first-alone : (readings : Readings) (schema : Schema) (v : Json) (lone : Bench) → lone_in readings schema v ≡ Some lone
     → lone.timeline ≡ standing_after 0 lone.timeline.first []
 first-alone readings schema v lone is =
-    let made = lone-parts readings schema (object_in v) lone (lone-from v (bench_of readings schema (object_in v)) lone is).0 in
+    let made = lone-parts readings most_past schema (object_in v) lone (lone-from v (bench_of readings schema (object_in v)) lone is).0 in
     made.alone
 
 module _ (readings : Readings) where

@@ -1,5 +1,5 @@
 -- From the values that are written of a valid bench the bench is taken, and from its file.
-use Rattle.std.proofs.Common.{◌≡◌, ◌≤◌, ℕ, ◌+◌, length, List, [], ◌∷◌, map, true, ◌&&◌, Option, Some, None, option_map, option_and_then, refl, sym, ap, ◌∙◌, arith}
+use Rattle.std.proofs.Common.{◌≡◌, ◌≤◌, ℕ, ◌+◌, length, List, [], ◌∷◌, map, true, ◌&&◌, Option, Some, None, option_map, option_and_then, refl, sym, ap, ◌∙◌, arith, eqb-true}
 use Rattle.std.proofs.lemmas.Bool.{and_from, and_parts}
 use Rattle.std.proofs.lemmas.Bool.Decides.{nat_tests}
 use Rattle.std.proofs.lemmas.List.Elements.{All-head, All-tail}
@@ -18,14 +18,14 @@ use Rattle.ssa_model.specs.definitions.Operations.{State}
 use Rattle.ssa_model.specs.definitions.Replies.{label_json}
 use Rattle.ssa_model.specs.definitions.Table.{Table, same_manager}
 use Rattle.ssa_model.specs.definitions.History.{Label, applied, updated, stripped, Step, Bench, is_manager_name}
-use Rattle.ssa_model.specs.definitions.Answers.{Fault, lone_bench, file_state, bench_of}
+use Rattle.ssa_model.specs.definitions.Answers.{Fault, lone_bench, file_state, bench_with, bench_of}
 use Rattle.ssa_model.specs.definitions.BenchText.{states, head_of, head_json, whole_object, first_json, step_json, bench_values, bench_text}
 use Rattle.ssa_model.specs.definitions.Valid.{AllEntries, IsValidState, shared_managers, KeepsOrder, KeepsOrders}
 use Rattle.ssa_model.specs.definitions.BenchFile.{IsReadBack, IsLabel, IsStep, IsSpelled, IsValidBench}
 use Rattle.ssa_model.specs.definitions.Formats.{can_tell_label, can_tell_state, CanTellStep, CanTell}
 use Rattle.ssa_model.specs.laws.BenchFiles.{text_lines, spelled_values, given_if, is_written_as, Head, head_in, schema_in, lone_in, said_label, is_label, label_in, keeps_order, step_with, step_in, steps_in, with_steps, values_bench, bench_in, BenchFilesAreTaken}
 use Rattle.ssa_model.proofs.LoneBenches.{lone-parts}
-use Rattle.ssa_model.proofs.ShownStates.{shown_state_is_taken}
+use Rattle.ssa_model.proofs.ShownStates.{shown_state_is_taken, shown_state_is_deep}
 use Rattle.ssa_model.proofs.SpelledValues.{text_lines-of, spelled_values-of}
 use Rattle.ssa_model.proofs.Tables.{manager-itself, same_manager-true, text-itself}
 use Rattle.ssa_model.proofs.Tests.{pointwise-true, pointwise-itself}
@@ -149,21 +149,26 @@ nat-itself a = grind (arith, nat_tests)
 module _ (readings : Readings) (bench : Bench) (named : is_identity bench.identity ≡ true) (accepted : IsSchemaKind bench.schema.kind)
     (state : State) (fits : IsValidState bench.schema.kind state) (back : AllEntries (IsReadBack readings) state.table) where
   -- from the object that is written of the state, the bench of this state is made
-  pub shown-back : bench_of readings bench.schema (whole_object bench state) ≡ Ok (lone_bench bench.schema bench.identity state)
-  shown-back = shown_state_is_taken readings bench.schema bench.identity state named accepted fits back
+  pub shown-back : (depth : ℕ) → bench_with readings depth bench.schema (whole_object bench state) ≡ Ok (lone_bench depth bench.schema bench.identity state)
+  shown-back depth = shown_state_is_deep readings depth bench.schema bench.identity state named accepted fits back
 
   -- and from this object the state is taken
   pub state-back : IsTaken readings bench state
-  state-back = (lone-parts readings bench.schema (whole_object bench state) (lone_bench bench.schema bench.identity state) shown-back).state_is
+  state-back = (lone-parts readings most_past bench.schema (whole_object bench state) (lone_bench most_past bench.schema bench.identity state) (shown-back most_past)).state_is
 
-module _ (readings : Readings) (bench : Bench) (valid : IsValidBench readings bench) (tells : CanTell states bench.timeline) where
+module _ (readings : Readings) (bench : Bench) (valid : IsValidBench readings bench) (tells : CanTell states bench) where
   abbrev lone : Bench
-  lone = lone_bench bench.schema bench.identity bench.timeline.first
+  lone = lone_bench bench.depth bench.schema bench.identity bench.timeline.first
+
+  -- the bench has the greatest depth
+  greatest : bench.depth ≡ most_past
+  greatest = eqb-true bench.depth most_past tells.depth
 
   lone-back : lone_in readings bench.schema (first_json bench) ≡ Some lone
   lone-back =
       lone-by (first_json bench) (bench_of readings bench.schema (whole_object bench bench.timeline.first)) lone
-      (shown-back readings bench valid.named valid.accepted bench.timeline.first valid.states.first valid.first) refl tells.first
+      (ap (λ n. bench_with readings n bench.schema (whole_object bench bench.timeline.first)) (sym greatest)
+      ∙ shown-back readings bench valid.named valid.accepted bench.timeline.first valid.states.first valid.first bench.depth) refl tells.first
 
   later-back : steps_in readings lone bench.timeline.first (map (step_json bench) bench.timeline.later) ≡ Some bench.timeline.later
   later-back =
@@ -184,8 +189,9 @@ module _ (readings : Readings) (bench : Bench) (valid : IsValidBench readings be
       let count = length bench.timeline.later in
       let place = valid.place in
       let few = valid.few in
+      let deep = valid.deep.1 in
       let within : nat_lt bench.timeline.place (count + 1) ≡ true = grind (arith, nat_tests, place) in
-      head-back bench.timeline.place (count + 1) within (nat_le-of (count + 1) (most_past + 1) (omega (arith, few)))
+      head-back bench.timeline.place (count + 1) within (nat_le-of (count + 1) (most_past + 1) (omega (arith, few, deep)))
 
   abbrev of_lone : Bench → Option Bench
   of_lone l = option_and_then (with_steps written_head l) (steps_in readings l l.timeline.first (map (step_json bench) bench.timeline.later))

@@ -14,13 +14,14 @@ use Rattle.ssa_model.specs.definitions.Schema.{Schema, SchemaFault, read_schema}
 use Rattle.ssa_model.specs.definitions.Kind.{Kind}
 use Rattle.ssa_model.specs.definitions.Operations.{State}
 use Rattle.ssa_model.specs.definitions.History.{Label, Step, Bench, with_timeline}
-use Rattle.ssa_model.specs.definitions.Answers.{Fault, file_state, bench_of}
+use Rattle.ssa_model.specs.definitions.Answers.{bench_of, Fault, file_state}
 use Rattle.ssa_model.specs.definitions.Lines.{ended}
 use Rattle.ssa_model.specs.definitions.BenchText.{states, head_of, first_json, step_json, bench_values}
 use Rattle.ssa_model.specs.definitions.Formats.{can_tell_label, can_tell_state, CanTellStep, CanTell}
 use Rattle.ssa_model.specs.laws.BenchFiles.{text_lines, spelled_values, given_if, is_written_as, number_in, Head, head_in, schema_in, object_in, lone_in, keeps_order, step_with, step_in, steps_in, with_steps, values_bench, label_in, TakenIsItsText}
 use Rattle.ssa_model.proofs.Given.{given-back, tested-back, and_then-back, map-back}
 use Rattle.ssa_model.proofs.LoneBenches.{lone-parts}
+use Rattle.ssa_model.proofs.TakenOfWritten.{nat-itself}
 use Rattle.ssa_model.proofs.SpelledValues.{text-of-values, lines-are-ended}
 use Rattle.ssa_model.proofs.Tables.{same_text-true}
 
@@ -98,7 +99,7 @@ module _ (readings : Readings) (bench : Bench) where
 
 module _ (readings : Readings) (head source first : Json) (later : List Json) (bench : Bench) where
   abbrev Written : Type 0
-  Written = (map compact (head ∷ source ∷ first ∷ later) ≡ map compact (bench_values bench)) × CanTell states bench.timeline
+  Written = (map compact (head ∷ source ∷ first ∷ later) ≡ map compact (bench_values bench)) × CanTell states bench
 
   by-steps : (h : Head) (schema : Schema) (lone : Bench) (steps : List Step)
       → head_in head ≡ Some h → schema_in source ≡ Some schema → lone_in readings schema first ≡ Some lone
@@ -110,13 +111,15 @@ module _ (readings : Readings) (head source first : Json) (later : List Json) (b
       let counted = eqb-true h.states (count + 1) got.0 in
       let lone_is = lone-from first (bench_of readings schema (object_in first)) lone alone in
       let head_is = (head-from head h headed).0 ∙ ap (λ n. compact (head_of h.place n)) counted in
-      let schema_is = (lone-parts readings schema (object_in first) lone lone_is.0).schema_is in
+      let parts = lone-parts readings most_past schema (object_in first) lone lone_is.0 in
+      let schema_is = parts.schema_is in
       let source_is = schema-from source (read_schema source) schema schemed ∙ ap (λ (x : Schema). x.source) schema_is in
       let steps_are = steps-from readings lone lone.timeline.first later steps stepped in
       let written : map compact (head ∷ source ∷ first ∷ later) ≡ map compact (bench_values made) =
       λ i. head_is i ∷ compact (source_is i) ∷ lone_is.1 i ∷ steps_are.0 i in
-      let tells : CanTell states made.timeline = record { first = lone_is.2; later = steps_are.1 } in
-      (written ∙ ap (λ b. map compact (bench_values b)) got.1, subst (λ (b : Bench). CanTell states b.timeline) got.1 tells)
+      let deep : (lone.depth == most_past) ≡ true = ap (λ n. n == most_past) (sym parts.depth_is) ∙ nat-itself most_past in
+      let tells : CanTell states made = record { depth = deep; first = lone_is.2; later = steps_are.1 } in
+      (written ∙ ap (λ b. map compact (bench_values b)) got.1, subst (CanTell states) got.1 tells)
 
   abbrev of_lone : Head → Bench → Option Bench
   of_lone h lone = option_and_then (with_steps h lone) (steps_in readings lone lone.timeline.first later)
@@ -150,7 +153,7 @@ module _ (readings : Readings) (head source first : Json) (later : List Json) (b
 
 -- the values from which a bench is taken have the texts of those that are written of it, of which the format can tell
 pub values-written : (readings : Readings) (vs : List Json) (bench : Bench) → values_bench readings vs ≡ Some bench
-    → (map compact vs ≡ map compact (bench_values bench)) × CanTell states bench.timeline
+    → (map compact vs ≡ map compact (bench_values bench)) × CanTell states bench
 values-written readings [] bench is = absurd (none-some bench is)
 values-written readings (head ∷ []) bench is = absurd (none-some bench is)
 values-written readings (head ∷ source ∷ []) bench is = absurd (none-some bench is)

@@ -27,5 +27,7 @@ pub mod FormatRows
 -- records that fit a state, and some that don't
 pub mod FittingRows
 pub mod PlaceRows
+-- a bounded depth of undo
+pub mod DepthRows
 -- the parts of an object
 pub mod PartRows

@@ -37,3 +37,4 @@ pub mod PathTexts
 pub mod NestedTexts
 pub mod WrittenPaths
 pub mod InPart
+pub mod PartTexts

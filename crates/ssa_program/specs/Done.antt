@@ -1,7 +1,7 @@
 -- What a call has done at its end, by its words: its outcome, or where it stopped.
 use Rattle.std.specs.Prelude.{◌≡◌, ◌++◌, ◌∷◌, [], ◌⊎◌, Bool, Option, Some, None}
 use Rattle.std.specs.Io.KnownBytes.{Appends}
-use Rattle.ssa_model.specs.definitions.BenchText.{parts}
+use Rattle.ssa_model.specs.definitions.BenchText.{depths}
 use Rattle.ssa_model.specs.definitions.History.{Bench}
 use Rattle.ssa_model.specs.definitions.Json.{Text}
 use Rattle.ssa_model.specs.definitions.Lines.{line_feed}
@@ -111,7 +111,7 @@ module _ (old new : Files) {W : Type 0} (contents : W → Option Text) (has_fail
     abbrev pub Holds : Text → Status → Type 0
     Holds bench s =
         (s ≡ Done)
-        × WithDraft bench old (λ files. IsHeld files bench (λ held after. RunsToEnd held after × Keeps bench (Some (recorded_text parts after))))
+        × WithDraft bench old (λ files. IsHeld files bench (λ held after. RunsToEnd held after × Keeps bench (Some (recorded_text depths after))))
 
     -- it is not saved: before it began, after its end, or because it broke off
     abbrev pub HoldStops : Text → Trouble → Type 0

@@ -2,7 +2,7 @@
 use Rattle.std.specs.Prelude.{◌≡◌, ◌+◌, Bool, true, false, Option, Some, None, Result, Ok, Err, ◌⊎◌, if◌then◌else◌}
 use Rattle.ssa_model.specs.definitions.Json.{Text}
 use Rattle.ssa_model.specs.definitions.Limits.{most_input_bytes, most_bench_bytes}
-use Rattle.ssa_model.specs.definitions.BenchText.{parts}
+use Rattle.ssa_model.specs.definitions.BenchText.{depths}
 use Rattle.ssa_model.specs.definitions.Files.{schema_of_file, bench_of_file}
 use Rattle.ssa_model.specs.definitions.History.{Bench}
 use Rattle.ssa_model.specs.definitions.Parts as part
@@ -48,7 +48,7 @@ IsBenchAt s bench = IsLoadOf s (Ok bench)
 
 -- the text that is to be saved for it
 abbrev pub saved_for : Bench → subcommands.Asked → Option Text
-saved_for bench asked = if is_asked_change bench asked then Some (recorded_text parts (asked_answer readings bench asked).1) else None
+saved_for bench asked = if is_asked_change bench asked then Some (recorded_text depths (asked_answer readings bench asked).1) else None
 
 abbrev pub answered : Bench → subcommands.Asked → Outcome
 answered bench asked = record {
@@ -98,7 +98,7 @@ pub record IsMade (files : Files) (schema object : Text) (o : Outcome) : Type 0 
   pub is_object : IsInput (under files object) object_bytes
   pub made : Bench
   pub is_made : bench_of_file readings schema_read object_bytes ≡ Ok made
-  pub outcome : o ≡ record { line = init_text made; status = Done; saved = Some (recorded_text parts made) }
+  pub outcome : o ≡ record { line = init_text made; status = Done; saved = Some (recorded_text depths made) }
 
 -- the bench that is there is looked at, and nothing is saved
 pub record IsSeen (files : Files) (bench : Text) (asked : subcommands.Asked) (o : Outcome) : Type 0 where

@@ -1,6 +1,6 @@
 //! The draft beside a bench's file: the lock of a call that may save, and what takes the file's place.
 ghost use Rattle.std.specs.Prelude.{◌≡◌, ◌≤◌, ◌++◌, [], Some, true, false, codes, IfErr, IfOk, OnErr, OnOk, length, string_bytes};
-ghost use Rattle.ssa_model.specs.definitions.BenchText.{parts};
+ghost use Rattle.ssa_model.specs.definitions.BenchText.{depths};
 ghost use Rattle.ssa_model.specs.definitions.RecordedBench.{recorded_text};
 ghost use Rattle.ssa_model.specs.definitions.Limits.{most_bench_bytes};
 ghost use Rattle.ssa_disk.specs.Files.{IsAsBut, draft_of};
@@ -85,13 +85,13 @@ pub fn put_draft<'a, D: Disk>(
     bench: &Bench,
 ) -> Result<(), Trouble<'a>>
     ensures own { draft.new.name ≡ draft.old.name }
-    ensures fits { OnOk result (length (recorded_text parts bench.now) ≤ most_bench_bytes) }
+    ensures fits { OnOk result (length (recorded_text depths bench.now) ≤ most_bench_bytes) }
     ensures placed { OnOk result (draft.new.is_placed ≡ true) }
     ensures unplaced { OnErr result (draft.new.is_placed ≡ draft.old.is_placed) }
     ensures saved { OnOk result (D.tells ≡ true → D.Made.contents draft.old.made ≡ Some []
-        → IsPut (recorded_text parts bench.now) (string_bytes draft.old.name) (string_bytes draft.old.place.name) (D.view disk.old) (D.view disk.new)) }
+        → IsPut (recorded_text depths bench.now) (string_bytes draft.old.name) (string_bytes draft.old.place.name) (D.view disk.old) (D.view disk.new)) }
     ensures err { OnErr result (IsAsBut (string_bytes draft.old.name) (D.view disk.old) (D.view disk.new)) }
-    ensures trouble { IfErr result (IsSaveTrouble name.now (recorded_text parts bench.now)) }
+    ensures trouble { IfErr result (IsSaveTrouble name.now (recorded_text depths bench.now)) }
 {
     if give_access(disk, draft).is_err() {
         return Err(Trouble::CannotWrite(name));

@@ -1,8 +1,8 @@
 //! Carries out what the words of the program ask for.
 ghost use Rattle.std.specs.Prelude.{◌≡◌, ◌++◌, ◌∷◌, ◌<◌, ◌⊎◌, [], Some, Ok, Err, true, codes, IfErr, IfOk, OnErr, OnOk, string_bytes};
 ghost use Rattle.std.specs.Io.KnownBytes.{Appends};
-ghost use Rattle.ssa_model.specs.definitions.BenchText.{parts};
-ghost use Rattle.ssa_model.specs.definitions.Files.{bench_of_file, schema_of_file};
+ghost use Rattle.ssa_model.specs.definitions.BenchText.{depths};
+ghost use Rattle.ssa_model.specs.definitions.Files.{bench_with_file, schema_of_file};
 ghost use Rattle.ssa_model.specs.definitions.History as history;
 ghost use Rattle.ssa_model.specs.definitions.Lines.{line_feed};
 ghost use Rattle.ssa_model.specs.definitions.RecordedBench.{recorded_text};
@@ -39,10 +39,11 @@ use ssa_json::sink::Sink;
 use ssa_json::source::Source;
 use ssa_lines::write_line::write_reply;
 use ssa_path::part::Part;
+use ssa_reverse::depth::Depth;
 use ssa_schema::schema::Schema;
 use ssa_session::bench_session::session;
 use ssa_session::engine::SessionFault;
-use ssa_session::files::{bench_of, schema_of};
+use ssa_session::files::{bench_with, schema_of};
 use ssa_session::reply_text::init_text;
 use ssa_words::call::Call;
 use std::alloc::Global;
@@ -95,7 +96,8 @@ fn carry_out<'a, D: Disk, R: Source, W: Sink>(
             schema,
             object,
             bench,
-        } => init(disk, alloc, writer, notes, schema, object, bench),
+            depth,
+        } => init(disk, alloc, writer, notes, schema, object, bench, depth),
         Call::Apply { bench, file, .. } | Call::Update { bench, file, .. } => {
             change_bench(disk, alloc, writer, notes, bench, file, call)
         }
@@ -132,7 +134,7 @@ fn made_schema<'a>(
     }
 }
 
-// The bench of the bytes of a file, under the schema that these other bytes are.
+// The bench of the bytes of a file and of this depth, under the schema that these other bytes are.
 fn made_bench<'a>(
     alloc: Global,
     notes: &mut Notes,
@@ -140,11 +142,12 @@ fn made_bench<'a>(
     schema_bytes: &[u8],
     name: &str,
     bytes: &[u8],
+    depth: Depth,
 ) -> Result<Bench, Trouble<'a>>
-    ensures made { IfOk result (λ bench. bench_of_file readings schema bytes.now ≡ Ok bench) }
-    ensures refused { IfErr result (λ t. (f : FileFault) × (t ≡ File f) × IsGivenFile {A = history.Bench} (Err f) (bench_of_file readings schema bytes.now)) }
+    ensures made { IfOk result (λ bench. bench_with_file readings depth schema bytes.now ≡ Ok bench) }
+    ensures refused { IfErr result (λ t. (f : FileFault) × (t ≡ File f) × IsGivenFile {A = history.Bench} (Err f) (bench_with_file readings depth schema bytes.now)) }
 {
-    match bench_of(alloc, schema, bytes) {
+    match bench_with(alloc, schema, bytes, depth) {
         Ok(bench) => Ok(bench),
         Err(fault) => {
             notes.about_object(alloc, name, bytes, schema_bytes, &fault);
@@ -163,6 +166,7 @@ fn init<'a, D: Disk, W: Sink>(
     schema: &'a str,
     object: &'a str,
     bench: &'a str,
+    depth: Depth,
 ) -> Result<Status, Trouble<'a>>
     ensures done { IfOk result (λ s. D.tells ≡ true → Makes (D.view disk.old) (D.view disk.new) W.contents W.has_failed writer.old writer.new
         schema.now object.now bench.now s) }
@@ -176,7 +180,15 @@ fn init<'a, D: Disk, W: Sink>(
     let schema_bytes = read_file(disk, alloc, schema)?;
     let read = made_schema(alloc, notes, schema, &schema_bytes)?;
     let object_bytes = read_file(disk, alloc, object)?;
-    let made = made_bench(alloc, notes, read, &schema_bytes, object, &object_bytes)?;
+    let made = made_bench(
+        alloc,
+        notes,
+        read,
+        &schema_bytes,
+        object,
+        &object_bytes,
+        depth,
+    )?;
     let made = ManuallyDrop::new(made);
     save_new(disk, alloc, writer, place, bench, &made)
 }
@@ -192,11 +204,11 @@ fn save_new<'a, D: Disk, W: Sink>(
 ) -> Result<Status, Trouble<'a>>
     ensures done { IfOk result (λ s. D.tells ≡ true → (s ≡ Status.Done)
         × (Appends (W.contents writer.old) (W.contents writer.new) (init_text bench.now ++ line_feed ∷ [])
-        × IsPut (recorded_text parts bench.now) (string_bytes place.name ++ codes ".new") (string_bytes place.name) (D.view disk.old) (D.view disk.new))) }
+        × IsPut (recorded_text depths bench.now) (string_bytes place.name ++ codes ".new") (string_bytes place.name) (D.view disk.old) (D.view disk.new))) }
     ensures stopped { IfErr result (λ t. D.tells ≡ true → Stops
         (IsAsBut (string_bytes place.name ++ codes ".new") (D.view disk.old) (D.view disk.new) × ((writer.new ≡ writer.old) × IsNoFault t))
         (IsCut W.contents W.has_failed writer.old writer.new (init_text bench.now ++ line_feed ∷ [])
-        × IsPut (recorded_text parts bench.now) (string_bytes place.name ++ codes ".new") (string_bytes place.name) (D.view disk.old) (D.view disk.new))
+        × IsPut (recorded_text depths bench.now) (string_bytes place.name ++ codes ".new") (string_bytes place.name) (D.view disk.old) (D.view disk.new))
         ⊥ t) }
 {
     let reply = init_text(alloc, bench)?;
@@ -495,7 +507,7 @@ fn hold_locked<'a, D: Disk, R: Source, W: Sink>(
     ensures done { IfOk result (λ s. D.tells ≡ true → D.Made.contents draft.old.made ≡ Some [] → (s ≡ Status.Done)
         × IsHeld (D.view disk.old) name.now (λ held after.
         RunsAll (R.remaining reader.old) (R.remaining reader.new) (W.contents writer.old) (W.contents writer.new) held after
-        × IsKeptBy (Some (recorded_text parts after)) draft.new.is_placed
+        × IsKeptBy (Some (recorded_text depths after)) draft.new.is_placed
         (string_bytes draft.old.name) (string_bytes draft.old.place.name) (D.view disk.old) (D.view disk.new))) }
     ensures stopped { IfErr result (λ t. D.tells ≡ true → Stops
         (IsAsBut (string_bytes draft.old.name) (D.view disk.old) (D.view disk.new)
@@ -527,7 +539,7 @@ fn hold_and_save<'a, D: Disk, R: Source, W: Sink>(
     ensures ended { IfOk result (λ s. s ≡ Status.Done) }
     ensures runs { OnOk result (RunsAll (R.remaining reader.old) (R.remaining reader.new) (W.contents writer.old) (W.contents writer.new) bench.old bench.new) }
     ensures kept { OnOk result (D.tells ≡ true → D.Made.contents draft.old.made ≡ Some []
-        → IsKeptBy (Some (recorded_text parts bench.new)) draft.new.is_placed
+        → IsKeptBy (Some (recorded_text depths bench.new)) draft.new.is_placed
         (string_bytes draft.old.name) (string_bytes draft.old.place.name) (D.view disk.old) (D.view disk.new)) }
 
     // A session that broke off, or was not saved, leaves the file.

@@ -1,5 +1,5 @@
 //! The records of a value that is kept elsewhere, for going back and forth along its history.
-ghost use Rattle.std.specs.Prelude.{◌≡◌, ◌+◌, ◌^◌, ◌≤◌, ◌<◌, ◌↔◌, ◌++◌, [], length, IsTrue, IsOk, IfOk, OnErr, OnOk, IsSome, IfSome, Some, slice_get, vec_len, vec_capacity, reverse};
+ghost use Rattle.std.specs.Prelude.{◌≡◌, ◌+◌, ◌^◌, ◌≤◌, ◌<◌, ◌↔◌, ◌++◌, [], drop, length, IsTrue, IsOk, IfOk, OnErr, OnOk, IsSome, IfSome, Some, slice_get, vec_len, vec_capacity, reverse};
 
 use crate::reversible::Reversible;
 use crate::room::push_within;
@@ -165,6 +165,21 @@ impl<T: Reversible, L: Drop> Journal<T, L> {
                 Err(error)
             }
         }
+    }
+
+    /// Drops the oldest record that leads back, and says whether there was one. The value can then no longer be taken
+    /// back over it; all other records stay. Takes no memory.
+    pub fn forget(&mut self) -> bool
+        ensures forgot { IsTrue result ↔ (0 < length (past_of self.old)) }
+        ensures past { past_of self.new ≡ drop 1 (past_of self.old) }
+        ensures future { future_of self.new ≡ future_of self.old }
+        ensures whole { (v : T.Meaning) → GoesWith self.old v → GoesWith self.new v }
+    {
+        if self.past.is_empty() {
+            return false;
+        }
+        let _oldest = self.past.remove(0);
+        true
     }
 
     /// The record at a place with its label: those of the past first, the oldest at 0, then those

@@ -16,7 +16,7 @@ const ENTRY: &str =
 pub fn bench_file(alloc: Global) -> Result<String, AllocError> {
     let present = web(alloc, ENTRY, IMAGE)?;
     [
-        "{\"format\":3,\"future\":0,\"past\":1}\n",
+        "{\"depth\":1000,\"format\":4,\"future\":0,\"past\":1}\n",
         SCHEMA,
         "\n",
         present.as_str(),

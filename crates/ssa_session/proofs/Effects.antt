@@ -1,12 +1,12 @@
 -- The bench after the replies to lines is that of the commands that the lines gave.
 use Rattle.std.proofs.Common.{◌≡◌, ℕ, List, [], ◌∷◌, ◌++◌, ◌⊎◌, inl, inr, Bool, true, false, Option, Result, Ok, Err, refl, sym, ap, ◌∙◌, subst}
-use Rattle.std.specs.Prelude.{if◌then◌else◌, nat_lt, length}
+use Rattle.std.specs.Prelude.{◌≤◌, if◌then◌else◌, nat_lt, length}
 use Rattle.ssa_model.specs.definitions.Json.{same_text}
 use Rattle.ssa_model.specs.definitions.Limits.{most_line_bytes}
 use Rattle.ssa_model.specs.definitions.History.{Bench}
 use Rattle.ssa_model.specs.definitions.Answers.{Command, run}
 use Rattle.ssa_model.specs.definitions.Session.{LineFault, answer_read, command_in, out_of_memory_text, read_line, too_long_text}
-use Rattle.ssa_model.specs.laws.Headline.{AnswersAreTold, RunIsInEffect, RunKeepsHistory, RunsGoOn}
+use Rattle.ssa_model.specs.laws.Headline.{AnswersAreTold, RunIsInEffect, RunGoesOn, RunsGoOn}
 use Rattle.ssa_json.specs.Readings.{readings}
 use Rattle.ssa_session.specs.BenchLines.{line_reply, bench_after}
 use Rattle.ssa_session.specs.Effects.{IsRunOf, RunsAll, RunsWhole, RunsPartly, commands_of}
@@ -69,10 +69,14 @@ pub record Laws : Type 0 where
   pub told : AnswersAreTold
   -- a list of commands is carried out by one part of it after the other
   pub runs : RunsGoOn
-  -- the state at the place is the commands in effect, carried out on the first state
+  -- the state at the place is the commands in effect, carried out on the state that the bench was made from
   pub effect : RunIsInEffect
-  -- a history whose states are made by commands stays one
-  pub history : RunKeepsHistory
+  -- the states that were there stand up to a place, and each behind them is its command carried out on the one before it
+  pub goes_on : RunGoesOn
+
+-- the place is that of one of the states
+abbrev pub IsWithin : Bench → Type 0
+IsWithin b = b.timeline.place ≤ length b.timeline.later
 
 module _ (laws : Laws) where
   replies-run : (old new : Bench) (ls ts : List Bytes) → Replies line_reply bench_after old ls ts new → new ≡ (run old (commands_of ls ts)).1
@@ -84,22 +88,22 @@ module _ (laws : Laws) where
       ∙ ap (λ b. (run b (commands_of ls ts)).1) (answered laws.told old r.0 l t r.1)
       ∙ ap (λ a. a.1) (sym (laws.runs old (given_by l t) (commands_of ls ts)))
 
-  replies-are_run : (old new : Bench) (ls ts : List Bytes) → Replies line_reply bench_after old ls ts new → IsRunOf old new (commands_of ls ts)
-  replies-are_run old new ls ts r =
+  replies-are_run : (old new : Bench) (ls ts : List Bytes) → IsWithin old → Replies line_reply bench_after old ls ts new → IsRunOf old new (commands_of ls ts)
+  replies-are_run old new ls ts place r =
       let cs = commands_of ls ts in
       let is_run : Bench → Type 0 = λ b. IsRunOf old b cs in
-      subst is_run (sym (replies-run old new ls ts r)) (record { run_is = refl; in_effect = laws.effect old cs; history = laws.history old cs })
+      subst is_run (sym (replies-run old new ls ts r)) (record { run_is = refl; in_effect = laws.effect old cs; goes_on = laws.goes_on old cs place })
 
-  module _ (left left_after written written_after : Option (List ℕ)) (old new : Bench) where
+  module _ (left left_after written written_after : Option (List ℕ)) (old new : Bench) (place : IsWithin old) where
     -- where every line is answered, the bench is that of the lines' commands
     pub runs-all : AnswersAll line_reply bench_after left left_after written written_after old new → RunsAll left left_after written written_after old new
-    runs-all a = record { answers = a; runs = replies-are_run old new (lines a.input) a.texts a.replies }
+    runs-all a = record { answers = a; runs = replies-are_run old new (lines a.input) a.texts place a.replies }
 
     -- where every whole line is answered, the bench is that of the whole lines' commands
     pub runs-whole : AnswersWhole line_reply bench_after left left_after written written_after old new → RunsWhole left left_after written written_after old new
-    runs-whole a = record { answers = a; runs = replies-are_run old new (whole_lines a.input) a.texts a.replies }
+    runs-whole a = record { answers = a; runs = replies-are_run old new (whole_lines a.input) a.texts place a.replies }
 
     -- where of the last reply a beginning was written, the bench is that of all the commands, the last one too
     pub runs-partly : AnswersPartly line_reply bench_after left left_after written written_after old new
         → RunsPartly left left_after written written_after old new
-    runs-partly a = record { answers = a; runs = replies-are_run old new (lines a.input) (a.texts ++ a.last ∷ []) a.replies }
+    runs-partly a = record { answers = a; runs = replies-are_run old new (lines a.input) (a.texts ++ a.last ∷ []) place a.replies }

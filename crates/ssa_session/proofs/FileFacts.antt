@@ -1,16 +1,17 @@
 -- Faults of files, from the faults of their parts.
-use Rattle.std.proofs.Common.{◌≡◌, List, Bool, true, false, refl, ap, ◌∙◌, subst}
+use Rattle.std.proofs.Common.{ℕ, ◌≡◌, List, Bool, true, false, refl, ap, ◌∙◌, subst}
 use Rattle.std.specs.Prelude.{Result, Ok, Err, if◌then◌else◌, Option}
 use Rattle.ssa_model.specs.definitions.Objects.{Identity}
 use Rattle.ssa_model.specs.definitions.Json.{Text, Json, object, list, scalar}
 use Rattle.ssa_model.specs.definitions.Kind.{Kind}
+use Rattle.ssa_model.specs.definitions.Limits.{most_past}
 use Rattle.ssa_model.specs.definitions.Schema as schemas
 use Rattle.ssa_model.specs.definitions.Schema.{read_schema, schema_keyword, schema_shape, schema_keys, schema_depth, Schema}
 use Rattle.ssa_model.specs.definitions.Operations.{State}
 use Rattle.ssa_model.specs.definitions.History.{Bench}
 use Rattle.ssa_model.specs.definitions.Answers as answers
 use Rattle.ssa_model.specs.definitions.Files as model
-use Rattle.ssa_model.specs.definitions.Files.{bench_of_file, bench_or_fault, of_object, of_schema, schema_of, schema_of_file, value_of_file}
+use Rattle.ssa_model.specs.definitions.Files.{bench_of_file, bench_with_file, bench_or_fault, of_object, of_schema, schema_of, schema_of_file, value_of_file}
 use Rattle.ssa_model.specs.laws.Headline.{IsAlone}
 use Rattle.ssa_json.specs.Readings.{readings}
 use Rattle.ssa_schema.specs.Schemas.{Faults}
@@ -41,27 +42,27 @@ schema-refused schema.OutOfMemory bytes v is h = tt
 
 -- ---- an object file
 
-by-object : (s : Schema) (bytes : Text) (v : Json) (r : Result Bench answers.Fault) → value_of_file readings bytes ≡ Ok v → answers.bench_of readings s v ≡ r
-    → bench_of_file readings s bytes ≡ bench_or_fault r
-by-object s bytes v r is e = ap (λ x. elim x [ Ok w ↦ bench_or_fault (answers.bench_of readings s w) | Err f ↦ Err f ]) is ∙ ap bench_or_fault e
+by-object : (depth : ℕ) (s : Schema) (bytes : Text) (v : Json) (r : Result Bench answers.Fault) → value_of_file readings bytes ≡ Ok v
+    → answers.bench_with readings depth s v ≡ r → bench_with_file readings depth s bytes ≡ bench_or_fault r
+by-object depth s bytes v r is e = ap (λ x. elim x [ Ok w ↦ bench_or_fault (answers.bench_with readings depth s w) | Err f ↦ Err f ]) is ∙ ap bench_or_fault e
 
 -- an object that is refused is the fault of its file
-pub object-refused : (f : engine.Fault) (s : Schema) (bytes : Text) (v : Json) → value_of_file readings bytes ≡ Ok v
-    → IsGiven {A = Bench} (Err f) (answers.bench_of readings s v)
-    → IsGivenFile {A = Bench} (Err (object_fault f)) (bench_of_file readings s bytes)
-object-refused bench.OutOfMemory s bytes v is h = tt
-object-refused _ s bytes v is h = (of_object h.0, by-object s bytes v _ is h.1, (h.0, refl, h.2))
+pub object-refused : (f : engine.Fault) (depth : ℕ) (s : Schema) (bytes : Text) (v : Json) → value_of_file readings bytes ≡ Ok v
+    → IsGiven {A = Bench} (Err f) (answers.bench_with readings depth s v)
+    → IsGivenFile {A = Bench} (Err (object_fault f)) (bench_with_file readings depth s bytes)
+object-refused bench.OutOfMemory depth s bytes v is h = tt
+object-refused _ depth s bytes v is h = (of_object h.0, by-object depth s bytes v _ is h.1, (h.0, refl, h.2))
 
 -- ---- a bench that is made has one state
 
-by-state : (s : Schema) (i : Identity) (r : Result State answers.Fault) (b : Bench) → answers.with_lone_state s i r ≡ Ok b → IsAlone b.timeline
+by-state : (s : Schema) (i : Identity) (r : Result State answers.Fault) (b : Bench) → answers.with_lone_state most_past s i r ≡ Ok b → IsAlone b.timeline
 by-state s i (Ok state) b is =
-    let made : answers.lone_bench s i state ≡ b = cc in
+    let made : answers.lone_bench most_past s i state ≡ b = cc in
     subst (λ x. IsAlone x.timeline) made (refl, refl)
 by-state s i (Err f) b is = absurd cc
 
 by-name : (named : Bool) (s : Schema) (i : Identity) (r : Result State answers.Fault) (b : Bench)
-    → (if named then Err answers.identity_fault else answers.with_lone_state s i r) ≡ Ok b → IsAlone b.timeline
+    → (if named then Err answers.identity_fault else answers.with_lone_state most_past s i r) ≡ Ok b → IsAlone b.timeline
 by-name true s i r b is = absurd cc
 by-name false s i r b is = by-state s i r b is
 

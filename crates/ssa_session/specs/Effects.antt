@@ -2,8 +2,8 @@
 use Rattle.std.specs.Prelude.{◌≡◌, ℕ, List, ◌∷◌, [], ◌++◌, Option, Ok}
 use Rattle.ssa_model.specs.definitions.History.{Bench, present}
 use Rattle.ssa_model.specs.definitions.Answers.{Command, run}
-use Rattle.ssa_model.specs.definitions.Effect.{IsHistory, all_carried_out, in_effect}
-use Rattle.ssa_model.specs.laws.Headline.{IsAlone, KeepsRun}
+use Rattle.ssa_model.specs.definitions.Effect.{all_carried_out, in_effect}
+use Rattle.ssa_model.specs.laws.Headline.{GoesOn, IsAlone}
 use Rattle.ssa_model.specs.definitions.Session.{given_commands}
 use Rattle.ssa_json.specs.Readings.{readings}
 use Rattle.ssa_session.specs.BenchLines.{line_reply, bench_after}
@@ -15,12 +15,12 @@ abbrev pub commands_of : List (List ℕ) → List (List ℕ) → List Command
 commands_of = given_commands readings
 
 -- The bench is that of the run of the commands. On a bench of one state, as a new one is, the state at the place is
--- the commands in effect, carried out on that state. On a bench whose states are made by deeds, each state is a deed
--- carried out on the one before it: those of before, and the accepted commands'.
+-- the commands in effect, carried out on that state. On any bench, as one that was loaded, the states that were there stand
+-- up to a place, and each behind them is its command carried out on the one before it.
 pub record IsRunOf (old new : Bench) (cs : List Command) : Type 0 where
   pub run_is : new ≡ (run old cs).1
   pub in_effect : IsAlone old.timeline → all_carried_out old.timeline.first (in_effect old cs) ≡ Ok (present new.timeline)
-  pub history : (before : IsHistory old.timeline) → KeepsRun old before.deeds cs
+  pub goes_on : GoesOn old.timeline new.timeline
 
 module _ (left left_after written written_after : Option (List ℕ)) (old new : Bench) where
   -- every line that was read was answered, and the bench is that of its commands

@@ -40,5 +40,6 @@ pub fn session<R: Source, W: Sink>(
     ensures writer_failed { result ≡ Err SessionFault.Writer → W.has_failed writer.new ≡ true }
 {
     headline_holds();
+    bench.is_valid();
     engine::session(alloc, reader, writer, bench)
 }

@@ -1,7 +1,7 @@
 //! A bench from a schema file and an object file, and a session on it.
 ghost use Rattle.std.specs.Prelude.{◌≡◌, ◌<◌, ◌++◌, ◌∷◌, [], ◌⊎◌, Ok, Err, IfOk, OnErr, OnOk, OnSome, true};
 ghost use Rattle.std.specs.Io.KnownBytes.{Appends, IsAtEnd};
-ghost use Rattle.ssa_model.specs.definitions.Files.{bench_of_file, schema_of_file, value_of_file};
+ghost use Rattle.ssa_model.specs.definitions.Files.{bench_of_file, bench_with_file, schema_of_file, value_of_file};
 ghost use Rattle.ssa_json.specs.Devices.{AppendsPart};
 ghost use Rattle.ssa_json.specs.Readings.{readings};
 ghost use Rattle.ssa_json.specs.View.{view};
@@ -21,6 +21,7 @@ use ssa_json::source::{DeviceFault, Source};
 use ssa_json::value::Json;
 use ssa_lines::fault_line::{code_text, write_fault};
 use ssa_lines::write_line::write_reply;
+use ssa_reverse::depth::Depth;
 use ssa_schema::fault::SchemaFault;
 use ssa_schema::schema::Schema;
 use std::alloc::{AllocError, Global};
@@ -111,13 +112,25 @@ pub fn schema_of(alloc: Global, bytes: &[u8]) -> Result<Schema, FileFault>
     }
 }
 
-/// The bench of an object file. Of several faults the first is told: the bytes' own, then those of
+/// The bench of an object file, of depth 1,000. Of several faults the first is told: the bytes' own, then those of
 /// `Bench::new`.
 pub fn bench_of(alloc: Global, schema: Schema, bytes: &[u8]) -> Result<Bench, FileFault>
     ensures { IsGivenFile result (bench_of_file readings schema bytes.now) }
 {
+    bench_with(alloc, schema, bytes, Depth::greatest())
+}
+
+/// The same with another depth.
+pub fn bench_with(
+    alloc: Global,
+    schema: Schema,
+    bytes: &[u8],
+    depth: Depth,
+) -> Result<Bench, FileFault>
+    ensures { IsGivenFile result (bench_with_file readings depth schema bytes.now) }
+{
     match value_of(alloc, bytes) {
-        Ok(value) => match Bench::new(alloc, schema, value) {
+        Ok(value) => match Bench::with_depth(alloc, schema, value, depth) {
             Ok(bench) => Ok(bench),
             Err(fault) => Err(FileFault::from(fault)),
         },

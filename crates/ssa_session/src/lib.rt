@@ -29,5 +29,5 @@ pub mod reply_text;
 pub use bench_machine::answer_command;
 pub use bench_session::session;
 pub use engine::{LINE_LIMIT, SessionFault};
-pub use files::{Ending, FileFault, bench_of, schema_of, session_on, tell};
+pub use files::{Ending, FileFault, bench_of, bench_with, schema_of, session_on, tell};
 pub use machine::Machine;

@@ -2,7 +2,7 @@
 use crate::bodies::{bodies, body, state};
 use ssa_answers::{Asked, command_of};
 use ssa_bench::{Bench, Command};
-use ssa_file::{RecordCounts, RecordFormat, record_counts};
+use ssa_file::{RecordFormat, record_counts};
 use ssa_json::OfReader;
 use ssa_lines::read_line::read_line;
 use ssa_lines::{Line, LineEnd};
@@ -120,17 +120,11 @@ fn ssa_record_example(rt: HostRuntime) -> Result<(), Fail> {
 
 #[test]
 fn ssa_file_example(rt: HostRuntime) -> Result<(), Fail> {
-    let head = json(rt.alloc(), r#"{"format":3,"future":0,"past":1}"#)?;
-    let counts = record_counts(rt.alloc(), &head)?;
-    let format = RecordFormat::Parts;
-    assert_eq!(rt;
-        counts,
-        Some(RecordCounts {
-            format,
-            past: 1,
-            future: 0
-        })
-    );
+    let head = json(rt.alloc(), r#"{"depth":10,"format":4,"future":0,"past":1}"#)?;
+    let counts = record_counts(rt.alloc(), &head)?.ok_or("no head")?;
+    assert_eq!(rt; counts.format, RecordFormat::Depths);
+    assert_eq!(rt; counts.depth.number(), 10);
+    assert_eq!(rt; (counts.past, counts.future), (1, 0));
     Ok(())
 }
 

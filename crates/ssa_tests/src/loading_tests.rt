@@ -95,7 +95,7 @@ fn is_taken(alloc: Global, file: &[u8]) -> Result<bool, Fail> {
 fn what_changes_in_one_place_is_loaded(rt: HostRuntime) -> Result<(), Fail> {
     for (before, after) in &CHANGES {
         let file = changed_file(rt.alloc(), before, after)?;
-        assert!(rt; file.starts_with(b"{\"format\":3,\"future\":0,\"past\":2}\n"));
+        assert!(rt; file.starts_with(b"{\"depth\":1000,\"format\":4,\"future\":0,\"past\":2}\n"));
         let taken = is_taken(rt.alloc(), file.as_slice())?;
         assert!(rt; taken, "after {after}");
     }
@@ -103,12 +103,14 @@ fn what_changes_in_one_place_is_loaded(rt: HostRuntime) -> Result<(), Fail> {
 }
 
 // Parts of the file, and others in their place, with which it is not the text of a bench.
-const DAMAGES: [(&str, &str); 19] = [
+const DAMAGES: [(&str, &str); 21] = [
     ("\"past\":1", "\"past\":2"),
     ("\"past\":1", "\"past\":0"),
     ("\"past\":1", "\"past\":1001"),
-    ("\"format\":3", "\"format\":4"),
-    ("{\"format\"", "{ \"format\""),
+    ("\"format\":4", "\"format\":5"),
+    ("\"depth\":1000", "\"depth\":1001"),
+    ("\"depth\":1000", "\"depth\":0"),
+    ("{\"depth\"", "{ \"depth\""),
     ("\"type\":\"object\"}\n", "\"type\":\"strings\"}\n"),
     ("\"kind\":\"App\"", "\"kind\":\"\""),
     ("\"force\":false,", ""),
@@ -204,9 +206,10 @@ fn damaged_files_are_refused(rt: HostRuntime) -> Result<(), Fail> {
     Ok(())
 }
 
-// The file in the format before this one.
-fn in_older_format(alloc: Global, file: &str) -> Result<String, Fail> {
-    Ok(file.replacen(alloc, "\"format\":3", "\"format\":2", 1)?)
+// The file in a format that tells of no depth.
+fn in_format(alloc: Global, file: &str, number: &str) -> Result<String, Fail> {
+    let head = ["{\"format\":", number].concat(alloc)?;
+    Ok(file.replacen(alloc, "{\"depth\":1000,\"format\":4", head.as_str(), 1)?)
 }
 
 // The file with a subresource at each of its places.
@@ -219,22 +222,27 @@ fn with_subresources(alloc: Global, file: &str) -> Result<String, Fail> {
 }
 
 #[test]
-fn the_older_format_is_taken_and_saved_in_this_one(rt: HostRuntime) -> Result<(), Fail> {
+fn older_formats_are_taken_and_saved_in_this_one(rt: HostRuntime) -> Result<(), Fail> {
     let file = bench_file(rt.alloc())?;
-    let older = in_older_format(rt.alloc(), file.as_str())?;
-    assert!(rt; older.as_str() != file.as_str());
-    let again = saved_again(rt.alloc(), older.as_bytes())?;
-    assert!(rt; again.as_slice() == file.as_bytes());
+    for number in &["2", "3"] {
+        let older = in_format(rt.alloc(), file.as_str(), number)?;
+        assert!(rt; older.as_str() != file.as_str());
+        let again = saved_again(rt.alloc(), older.as_bytes())?;
+        assert!(rt; again.as_slice() == file.as_bytes());
+    }
     Ok(())
 }
 
 #[test]
-fn a_bench_with_a_subresource_is_taken_in_this_format_alone(rt: HostRuntime) -> Result<(), Fail> {
+fn a_bench_with_a_subresource_is_taken_where_it_can_be_told(rt: HostRuntime) -> Result<(), Fail> {
     let file = bench_file(rt.alloc())?;
     let parted = with_subresources(rt.alloc(), file.as_str())?;
     let again = saved_again(rt.alloc(), parted.as_bytes())?;
     assert!(rt; again.as_slice() == parted.as_bytes());
-    let older = in_older_format(rt.alloc(), parted.as_str())?;
+    let before = in_format(rt.alloc(), parted.as_str(), "3")?;
+    let told = saved_again(rt.alloc(), before.as_bytes())?;
+    assert!(rt; told.as_slice() == parted.as_bytes());
+    let older = in_format(rt.alloc(), parted.as_str(), "2")?;
     assert!(rt; is_refused(rt.alloc(), older.as_str()));
     Ok(())
 }
@@ -242,7 +250,7 @@ fn a_bench_with_a_subresource_is_taken_in_this_format_alone(rt: HostRuntime) -> 
 #[test]
 fn the_older_format_has_no_subresource(rt: HostRuntime) -> Result<(), Fail> {
     let file = bench_file(rt.alloc())?;
-    let older = in_older_format(rt.alloc(), file.as_str())?;
+    let older = in_format(rt.alloc(), file.as_str(), "2")?;
     for (part, other) in &SUBRESOURCES {
         let damaged = older.as_str().replacen(rt.alloc(), part, other, 1)?;
         assert!(rt; damaged.as_str() != older.as_str(), "part {part}");

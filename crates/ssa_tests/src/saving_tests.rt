@@ -41,6 +41,6 @@ fn a_full_device_is_told(rt: HostRuntime) -> Result<(), Fail> {
     let has_failed = fails(rt.alloc(), &mut bench, &mut room[..]);
     drop(bench);
     assert!(rt; has_failed);
-    assert_eq!(rt; room, *b"{\"format\"");
+    assert_eq!(rt; room, *b"{\"depth\":");
     Ok(())
 }

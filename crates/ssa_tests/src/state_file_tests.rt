@@ -7,7 +7,7 @@ use std::alloc::Global;
 use std::test::Fail;
 
 // How the file of records begins, and ends, of the bench on which an image was applied, after the undo.
-const UNDONE_HEAD: &str = "{\"format\":3,\"future\":1,\"past\":0}\n";
+const UNDONE_HEAD: &str = "{\"depth\":1000,\"format\":4,\"future\":1,\"past\":0}\n";
 
 const ONWARD: &str =
     "{\"changed\":[],\"cut\":[],\"gone\":[],\"here\":[{\"entry\":{\"apiVersion\":\"example.com/v1\",\"fieldsType\":\"FieldsV1\",\"fieldsV1\":{\"f:spec\":{\"f:image\":{}}},\"manager\":\"kubectl\",\"operation\":\"Apply\",\"time\":\"2024-05-01T10:00:01Z\"},\"place\":0}],\"leaves\":[],\"order\":[],\"put\":[[[\"f:spec\"],{\"image\":\"a\"}]]}}\n";

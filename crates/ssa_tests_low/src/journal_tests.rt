@@ -164,6 +164,31 @@ fn a_counter_goes_back_and_forth(rt: HostRuntime) {
     assert_eq!(rt; told, Ok(((false, 1), 3, moves)));
 }
 
+// Two records forth, the oldest of which is forgotten, and back as far as it goes: whether there was one to forget, at first
+// and at last, and where the counter is.
+fn forget(
+    alloc: Global,
+    journal: &mut Journal<Counter, u8>,
+    counter: &mut Counter,
+) -> Result<([bool; 2], [(bool, u32); 2], bool), AllocError>
+    requires { GoesWith journal.old counter.old.count }
+{
+    let none = journal.forget();
+    journal.record(counter, boxed(alloc, 2, 12)?)?;
+    journal.record(counter, boxed(alloc, 3, 13)?)?;
+    let oldest = journal.forget();
+    let moves = [back(journal, counter)?, back(journal, counter)?];
+    Ok(([none, oldest], moves, journal.forget()))
+}
+
+#[test]
+fn the_oldest_record_is_forgotten(rt: HostRuntime) {
+    let mut journal = Journal::<Counter, u8>::new(rt.alloc());
+    let mut counter = Counter { count: 1 };
+    let told = forget(rt.alloc(), &mut journal, &mut counter);
+    assert_eq!(rt; told, Ok(([false, true], [(true, 2), (false, 2)], false)));
+}
+
 // Records with their labels, and nothing behind the last.
 type Entries = [Option<(u32, u8)>; 5];
 

@@ -14,26 +14,7 @@ use Rattle.ssa_json.specs.Writable.{IsOfProgram, is_below}
 use Rattle.ssa_json.proofs.MemberTexts.{writes-member, writes-object}
 use Rattle.ssa_json.proofs.OfProgram.{empty-of-program, member-of-program, text-of-program}
 use Rattle.ssa_path.specs.PartMembers.{part_text}
-
--- ---- the member of the part
-
--- the name of a part's subresource, written behind other members
-subresource-text : member_text true (codes "subresource") (text_json (codes "status")) ≡ part_text status
-unfolding member_text name_text
-subresource-text = refl
-
--- what is written behind a part is written with its member, if it has one
-writes-part : (s : Subresource) (before : Text) {after whole : Text} (ms : Members) → after ≡ before ++ part_text s
-    → whole ≡ after ++ compact_members true ms → whole ≡ before ++ compact_members true (part_members s ms)
-writes-part main before ms is rest = rest ∙ ap (λ t. t ++ compact_members true ms) (is ∙ append-nil before)
-writes-part status before ms is rest =
-    writes-member before true (codes "subresource") (text_json (codes "status")) ms (is ∙ ap (λ t. before ++ t) (sym subresource-text)) rest
-
-part-of-program : (s : Subresource) → IsOfProgram (object (part_members s no_members))
-part-of-program main = empty-of-program
-part-of-program status =
-    member-of-program (codes "subresource") (text_json (codes "status")) no_members (ascii-is-utf8 (codes "subresource") refl) refl
-    (text-of-program (codes "status") (ascii-is-utf8 (codes "status") refl)) empty-of-program
+use Rattle.ssa_path.proofs.PartTexts.{part-of-program, part-written}
 
 manager-below : (s : Subresource) → is_below (codes "manager") (part_members s no_members) ≡ true
 manager-below main = refl
@@ -59,7 +40,7 @@ applied-written who force at t0 {t1 = t1} {t2 = t2} {t3 = t3} {t4 = t4} {t5 = t5
     (writes-member t2 true (codes "do") (text_json (codes "apply")) m3 e2
     (writes-member t3 true (codes "force") (scalar (truth force)) m4 e3
     (writes-member t4 true (codes "manager") (text_json who.name) m5 e4
-    (writes-part who.part t5 no_members e5
+    (part-written who.part t5 no_members e5
     e6)))))
 
 pub applied-of-program : (who : Actor) (force : Bool) (at : Text)
@@ -77,7 +58,7 @@ applied-of-program who force at n1 v1 n2 v2 n3 v3 n4 v4 =
     (member-of-program (codes "do") (text_json (codes "apply")) m3 n2 refl v2
     (member-of-program (codes "force") (scalar (truth force)) m4 n3 refl v3
     (member-of-program (codes "manager") (text_json who.name) m5 n4 (manager-below who.part) v4
-    (part-of-program who.part)))))
+    (part-of-program who.part no_members refl empty-of-program)))))
 
 -- ---- an Update
 
@@ -96,7 +77,7 @@ updated-written who at t0 {t1 = t1} {t2 = t2} {t3 = t3} {t4 = t4} e0 e1 e2 e3 e4
     (writes-member t1 false (codes "at") (text_json at) m2 e1
     (writes-member t2 true (codes "do") (text_json (codes "update")) m3 e2
     (writes-member t3 true (codes "manager") (text_json who.name) m4 e3
-    (writes-part who.part t4 no_members e4
+    (part-written who.part t4 no_members e4
     e5))))
 
 pub updated-of-program : (who : Actor) (at : Text)
@@ -111,7 +92,7 @@ updated-of-program who at n1 v1 n2 v2 n3 v3 =
     (member-of-program (codes "at") (text_json at) m2 n1 refl v1
     (member-of-program (codes "do") (text_json (codes "update")) m3 n2 refl v2
     (member-of-program (codes "manager") (text_json who.name) m4 n3 (manager-below who.part) v3
-    (part-of-program who.part))))
+    (part-of-program who.part no_members refl empty-of-program))))
 
 -- ---- a strip
 

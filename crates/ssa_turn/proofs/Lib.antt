@@ -1,3 +1,4 @@
+pub mod Forgetting
 pub mod InARow
 pub mod KeptRecords
 pub mod LabelTexts

@@ -2,7 +2,7 @@
 ghost use Rattle.std.specs.Prelude.{◌≡◌, ◌↔◌, [], OnOk, OnErr, IfOk, IfSome, IsSome, Some, ◌≤◌, ◌+◌, ◌-◌, ◌<◌, ◌^◌, length, map, min, option_map, take, drop, slice_get, ◌++◌};
 ghost use Rattle.std.specs.List.{All};
 ghost use Rattle.ssa_model.specs.definitions.Carry.{carry};
-ghost use Rattle.ssa_model.specs.definitions.History.{present, past_len, future_len, appended, moved_to};
+ghost use Rattle.ssa_model.specs.definitions.History.{present, past_len, future_len, appended, forgotten, held, moved_to};
 ghost use Rattle.ssa_model.specs.definitions.HistoryRecords.{kept_from, kept_size, kept_to};
 ghost use Rattle.ssa_model.specs.definitions.Record.{record_of};
 ghost use Rattle.ssa_model.specs.definitions.RecordedBench.{HasReadHistory};
@@ -17,6 +17,7 @@ ghost use Rattle.ssa_turn_state.specs.States.{HasStateRoom, IsTaken, state_steps
 use crate::label::Label;
 use crate::reads_state::ReadsState;
 use ssa_merge::state::State;
+use ssa_reverse::depth::Depth;
 use ssa_reverse::journal::Journal;
 use ssa_turn_state::live_state::{LiveState, StateDelta};
 use ssa_turn_state::own_paths::own_paths_are_read;
@@ -221,6 +222,23 @@ impl Timeline {
         let moved = self.journal.precede(&mut self.live, entry);
         own_paths_are_read(&self.live.state.body);
         moved
+    }
+
+    /// Drops the oldest state, and the record that led back to it. The place stays with its state. Takes no memory.
+    pub fn forget(&mut self)
+        requires { 0 < past_len self.old }
+        ensures { self.new ≡ forgotten self.old }
+    {
+        self.journal.forget();
+    }
+
+    /// Drops the oldest state where more than `depth` stand before the place. Takes no memory.
+    pub fn hold(&mut self, depth: &Depth)
+        ensures { self.new ≡ held depth.now self.old }
+    {
+        if self.past_len() > depth.number() {
+            self.forget();
+        }
     }
 
     /// Reads the live state where it stands. The history is as before.

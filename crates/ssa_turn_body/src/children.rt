@@ -1,4 +1,5 @@
 //! Changes of one place: another leaf, or children that go, come and move.
+ghost use Rattle.std.specs.Prelude.{◌≡◌};
 
 use crate::descent::Change;
 use crate::reorder::reorder;
@@ -11,6 +12,16 @@ use std::mem;
 #[derive(Drop)]
 pub struct LeafSwap {
     pub leaf: Leaf,
+}
+
+impl LeafSwap {
+    /// The leaf: nothing else is kept. Takes no memory.
+    pub fn into_parts(self) -> Leaf
+        ensures { result ≡ self.leaf }
+    {
+        let LeafSwap { leaf } = self;
+        leaf
+    }
 }
 
 impl Change for LeafSwap {
@@ -38,12 +49,34 @@ pub struct Placed {
     pub elements: Vec<Elem>,
 }
 
+impl Placed {
+    /// The places and the elements: nothing else is kept. Takes no memory.
+    pub fn into_parts(self) -> (Vec<usize>, Vec<Elem>)
+        ensures places { result.0 ≡ self.places }
+        ensures elements { result.1 ≡ self.elements }
+    {
+        let Placed { places, elements } = self;
+        (places, elements)
+    }
+}
+
 /// The elements of all children of one place in their order, after an edit and before it. Both are
 /// empty where no child is exchanged.
 #[derive(Drop)]
 pub struct Orders {
     pub after: Vec<Elem>,
     pub before: Vec<Elem>,
+}
+
+impl Orders {
+    /// Both orders: nothing else is kept. Takes no memory.
+    pub fn into_parts(self) -> (Vec<Elem>, Vec<Elem>)
+        ensures after { result.0 ≡ self.after }
+        ensures before { result.1 ≡ self.before }
+    {
+        let Orders { after, before } = self;
+        (after, before)
+    }
 }
 
 /// What changes among the children of one place: some go, some come, and others move.
@@ -69,6 +102,41 @@ pub struct ChildrenEdit {
 
 impl ChildrenEdit {
     ghost use Rattle.ssa_turn_body.specs.Edits.{EditFitsIn, EditGivesIn};
+
+    /// What goes, comes and moves, and the room: nothing else is kept. Takes no memory.
+    pub fn into_parts(
+        self,
+    ) -> (
+        Vec<(usize, usize)>,
+        Placed,
+        Placed,
+        Vec<(usize, usize)>,
+        Orders,
+        Vec<(Elem, Node)>,
+        Vec<(Elem, Node)>,
+        Vec<(Elem, Node)>,
+    )
+        ensures before { result.0 ≡ self.before }
+        ensures gone { result.1 ≡ self.gone }
+        ensures come { result.2 ≡ self.come }
+        ensures after { result.3 ≡ self.after }
+        ensures order { result.4 ≡ self.order }
+        ensures held { result.5 ≡ self.held }
+        ensures out { result.6 ≡ self.out }
+        ensures room { result.7 ≡ self.room }
+    {
+        let ChildrenEdit {
+            before,
+            gone,
+            come,
+            after,
+            order,
+            held,
+            out,
+            room,
+        } = self;
+        (before, gone, come, after, order, held, out, room)
+    }
 
     // Makes the edit, which becomes the one that leads back.
     fn turn(&mut self, children: &mut Vec<(Elem, Node)>)

@@ -21,6 +21,15 @@ pub struct Step {
 }
 
 impl Step {
+    /// The path and the change: nothing else is kept. Takes no memory.
+    pub fn into_parts(self) -> (Vec<Elem>, PlaceChange)
+        ensures path { result.0 ≡ self.path }
+        ensures change { result.1 ≡ self.change }
+    {
+        let Step { path, change } = self;
+        (path, change)
+    }
+
     /// Makes the change, which becomes the one that leads back. Takes no memory.
     pub fn turn(&mut self, node: &mut Node)
         requires tree { is_tree node.old ≡ true }
@@ -52,6 +61,14 @@ pub struct BodySteps {
 
 impl BodySteps {
     ghost use Rattle.ssa_turn_body.specs.Turns.{IsTurned};
+
+    /// The changes: nothing else is kept. Takes no memory.
+    pub fn into_parts(self) -> Vec<Step>
+        ensures { result ≡ self.steps }
+    {
+        let BodySteps { steps } = self;
+        steps
+    }
 
     /// The changes that change nothing. Takes no memory.
     pub fn none(alloc: Global) -> BodySteps

@@ -52,11 +52,12 @@ impl KeptPaths {
         }
     }
 
-    /// The trie.
+    /// The trie. Nothing else is kept.
     pub fn as_trie(&self) -> &Trie
         ensures { result.now ≡ self.now }
     {
-        match &self.holder {
+        let KeptPaths { holder } = self;
+        match holder {
             Holder::Own(trie) => trie,
             Holder::Shared(trie) => trie,
         }

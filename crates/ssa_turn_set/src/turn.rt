@@ -18,6 +18,17 @@ pub struct SetRoom {
     pub lose: Room,
 }
 
+impl SetRoom {
+    /// The rooms of both sides: nothing else is kept. Takes no memory.
+    pub fn into_parts(self) -> (Room, Room)
+        ensures gain { result.0 ≡ self.gain }
+        ensures lose { result.1 ≡ self.lose }
+    {
+        let SetRoom { gain, lose } = self;
+        (gain, lose)
+    }
+}
+
 /// A record of a field set: the paths that it gains and those that it loses, with the room for a
 /// turn, which serves the way back as well.
 #[derive(Drop)]
@@ -25,6 +36,18 @@ pub struct SetDelta {
     pub gain: KeptPaths,
     pub lose: KeptPaths,
     pub room: SetRoom,
+}
+
+impl SetDelta {
+    /// What is gained and lost, and the room: nothing else is kept. Takes no memory.
+    pub fn into_parts(self) -> (KeptPaths, KeptPaths, SetRoom)
+        ensures gain { result.0 ≡ self.gain }
+        ensures lose { result.1 ≡ self.lose }
+        ensures room { result.2 ≡ self.room }
+    {
+        let SetDelta { gain, lose, room } = self;
+        (gain, lose, room)
+    }
 }
 
 /// Changes the set as the record says, and leaves the record that leads back. Takes no memory.

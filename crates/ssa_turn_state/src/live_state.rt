@@ -26,6 +26,17 @@ pub struct StateDelta {
     pub table: TableDelta,
 }
 
+impl StateDelta {
+    /// The records of the body and of the table: nothing else is kept, no state among them. Takes no memory.
+    pub fn into_parts(self) -> (BodySteps, TableDelta)
+        ensures body { result.0 ≡ self.body }
+        ensures table { result.1 ≡ self.table }
+    {
+        let StateDelta { body, table } = self;
+        (body, table)
+    }
+}
+
 /// Changes the state as the record says, and leaves the record that leads back. Takes no memory.
 pub fn turn_state(state: &mut State, delta: &mut StateDelta)
     requires fits { IsTaken (state_steps delta.old) (state_view state.old) (carry (state_steps delta.old) (state_view state.old)) }

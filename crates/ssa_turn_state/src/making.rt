@@ -1,5 +1,7 @@
 //! The record of two states, made with the room for its turns.
-ghost use Rattle.std.specs.Prelude.{◌≡◌, IfOk};
+ghost use Rattle.std.specs.Prelude.{◌≡◌, ◌≤◌, IfOk};
+ghost use Rattle.ssa_model.specs.definitions.Carry.{carry};
+ghost use Rattle.ssa_model.specs.definitions.Facts.{facts, record_size};
 ghost use Rattle.ssa_model.specs.definitions.Fitting.{IsBodyOf};
 ghost use Rattle.ssa_model.specs.definitions.Kind.{Kind};
 ghost use Rattle.ssa_model.specs.definitions.Record.{body_record, record_of};
@@ -17,6 +19,7 @@ use ssa_merge::change::NewBody;
 use ssa_merge::plan::Plan;
 use ssa_merge::state::State;
 use ssa_merge::table_change::TableChange;
+use ssa_model::records::{record_leads, size_bound};
 use ssa_turn_body::between::steps_between;
 use ssa_turn_body::leaf_steps::steps_in_leaves;
 use ssa_turn_body::over_steps::steps_over;
@@ -93,6 +96,29 @@ impl StateDelta {
         requires leads { LeadsTo (state_view state.now).table table (changed_table table (state_view state.now).table) }
         requires order { KeepsOrder (state_view state.now).table (changed_table table (state_view state.now).table) }
         ensures record { IfOk result (λ d. state_steps d ≡ record_of (state_view state.now) (changed_state (state_view state.now) body comparison.now.removed table)) }
+        ensures leads { IfOk result (λ d. carry (state_steps d) (state_view state.now) ≡ changed_state (state_view state.now) body comparison.now.removed table) }
+        ensures bound { IfOk result (λ d. record_size (state_steps d) ≤ facts (state_view state.now) (changed_state (state_view state.now) body comparison.now.removed table)) }
+        ensures room { IfOk result (λ d. HasStateRoom d (state_view state.now)) }
+    {
+        record_leads();
+        size_bound();
+        StateDelta::of_parts(alloc, state, body, comparison, table)
+    }
+
+    // The same, without what the laws say of it.
+    fn of_parts(
+        alloc: Global,
+        state: &State,
+        body: NewBody,
+        comparison: &Comparison,
+        table: TableChange,
+    ) -> Result<StateDelta, AllocError>
+        requires stands { CanStand body comparison.now.removed state.now.body }
+        requires compared { IsComparison state.now.body (body_after body comparison.now.removed state.now.body) comparison.now }
+        requires valid { (kind : Kind) × IsValidState kind (state_view state.now) × IsValidState kind (changed_state (state_view state.now) body comparison.now.removed table) }
+        requires leads { LeadsTo (state_view state.now).table table (changed_table table (state_view state.now).table) }
+        requires order { KeepsOrder (state_view state.now).table (changed_table table (state_view state.now).table) }
+        ensures record { IfOk result (λ d. state_steps d ≡ record_of (state_view state.now) (changed_state (state_view state.now) body comparison.now.removed table)) }
         ensures room { IfOk result (λ d. HasStateRoom d (state_view state.now)) }
     {
         let body = body_steps(alloc, &state.body, body, comparison)?;
@@ -100,11 +126,26 @@ impl StateDelta {
         Ok(StateDelta { body, table })
     }
 
-    /// The record that leads from one state to another, with room for every turn of it.
+    /// The record that leads from one state to another, with room for every turn of it. It holds no more than the facts in
+    /// which the two differ.
     ///
     /// All memory that its turns want is taken here; `Err` comes where it is refused. The sets of a
     /// manager of both states are compared.
     pub fn leading(alloc: Global, from: &State, to: State) -> Result<StateDelta, AllocError>
+        requires valid { (kind : Kind) × IsValidState kind (state_view from.now) × IsValidState kind (state_view to) }
+        requires order { KeepsOrder (state_view from.now).table (state_view to).table }
+        ensures record { IfOk result (λ d. state_steps d ≡ record_of (state_view from.now) (state_view to)) }
+        ensures leads { IfOk result (λ d. carry (state_steps d) (state_view from.now) ≡ state_view to) }
+        ensures bound { IfOk result (λ d. record_size (state_steps d) ≤ facts (state_view from.now) (state_view to)) }
+        ensures room { IfOk result (λ d. HasStateRoom d (state_view from.now)) }
+    {
+        record_leads();
+        size_bound();
+        StateDelta::of_states(alloc, from, to)
+    }
+
+    // The same, without what the laws say of it.
+    fn of_states(alloc: Global, from: &State, to: State) -> Result<StateDelta, AllocError>
         requires valid { (kind : Kind) × IsValidState kind (state_view from.now) × IsValidState kind (state_view to) }
         requires order { KeepsOrder (state_view from.now).table (state_view to).table }
         ensures record { IfOk result (λ d. state_steps d ≡ record_of (state_view from.now) (state_view to)) }
@@ -124,6 +165,8 @@ impl StateDelta {
         requires valid { (kind : Kind) × IsValidState kind (state_view state.now) × IsValidState kind (state_view plan.target) }
         requires order { KeepsOrder (state_view state.now).table (state_view plan.target).table }
         ensures record { IfOk result (λ d. state_steps d ≡ record_of (state_view state.now) (state_view plan.target)) }
+        ensures leads { IfOk result (λ d. carry (state_steps d) (state_view state.now) ≡ state_view plan.target) }
+        ensures bound { IfOk result (λ d. record_size (state_steps d) ≤ facts (state_view state.now) (state_view plan.target)) }
         ensures room { IfOk result (λ d. HasStateRoom d (state_view state.now)) }
     {
         StateDelta::leading(alloc, state, plan.target)

@@ -1,5 +1,5 @@
 -- The text of the change of a manager, written member by member.
-use Rattle.std.proofs.Common.{◌≡◌, [], ◌∷◌, ◌++◌, Option, Some, None, true, false, refl, ap, ◌∙◌, append_assoc}
+use Rattle.std.proofs.Common.{◌≡◌, [], ◌∷◌, ◌++◌, Option, Some, None, true, false, refl}
 use Rattle.std.specs.Prelude.{codes}
 use Rattle.std.specs.Str.{is_utf8}
 use Rattle.ssa_model.specs.definitions.Entries.{operation_text, part_members, text_json}
@@ -15,6 +15,7 @@ use Rattle.ssa_json.specs.Writable.{IsOfProgram}
 use Rattle.ssa_json.proofs.MemberTexts.{writes-member, writes-object}
 use Rattle.ssa_json.proofs.OfProgram.{member-of-program, text-of-program}
 use Rattle.ssa_path.specs.PartMembers.{part_text}
+use Rattle.ssa_path.proofs.PartTexts.{part-of-program, part-written}
 use Rattle.ssa_turn_table.specs.Tables.{change_view}
 use Rattle.ssa_turn_table.specs.declared.delta.EntryChange.{EntryChange}
 
@@ -24,17 +25,6 @@ changed_value c = change_json (change_view c)
 
 -- ---- the member of a subresource, where the part is that of one
 
-part-behind : (s : Subresource) (ms : Members) → part_text s ++ compact_members true ms ≡ compact_members true (part_members s ms)
-part-behind main ms = refl
-part-behind status ms = refl
-
--- what is written behind the member is written with it behind what stood before it
-part-written : (s : Subresource) (before : Text) {after whole : Text} (ms : Members) → after ≡ before ++ part_text s
-    → whole ≡ after ++ compact_members true ms → whole ≡ before ++ compact_members true (part_members s ms)
-part-written s before ms is rest =
-    rest ∙ ap (λ t. t ++ compact_members true ms) is ∙ append_assoc before (part_text s) (compact_members true ms)
-    ∙ ap (λ t. before ++ t) (part-behind s ms)
-
 part-above : (s : Subresource) (at : Option Text) → is_below (codes "operation") (part_members s (time_members at)) ≡ true
 part-above main None = refl
 part-above main (Some at) = refl
@@ -43,12 +33,6 @@ part-above status at = refl
 time-above : (at : Option Text) → is_below (codes "subresource") (time_members at) ≡ true
 time-above None = refl
 time-above (Some at) = refl
-
-part-of-program : (s : Subresource) (at : Option Text) → IsOfProgram (object (time_members at)) → IsOfProgram (object (part_members s (time_members at)))
-part-of-program main at rest = rest
-part-of-program status at rest =
-    member-of-program (codes "subresource") (text_json (codes "status")) (time_members at) (ascii-is-utf8 (codes "subresource") refl) (time-above at)
-    (text-of-program (codes "status") (ascii-is-utf8 (codes "status") refl)) rest
 
 -- ---- a change
 
@@ -91,4 +75,4 @@ change-of-program c n1 v1 n2 v2 n3 v3 n4 v4 rest =
     (member-of-program (codes "lose") (fields_json c.lose) m3 n2 refl v2
     (member-of-program (codes "manager") (text_json c.manager.name) m4 n3 refl v3
     (member-of-program (codes "operation") (text_json (operation_text c.manager.operation)) m5 n4 (part-above s c.moment) v4
-    (part-of-program s c.moment rest)))))
+    (part-of-program s (time_members c.moment) (time-above c.moment) rest)))))

@@ -1,8 +1,8 @@
--- A parse of one level that finds no fault leaves no row without a value and no subresource but
--- `status`, where each argument is fed: it wants a value, or has one of its own, and the subresource
--- can be no other.
-use Rattle.std.proofs.Common.{◌≡◌, ◌∙◌, ℕ, Bool, cond, true, false, not, zero, suc, refl, sym, subst, List, [], ◌∷◌, ◌++◌, length, Option, Some, None, is_some, true≢false, ◌&&◌, ◌||◌}
-use Rattle.std.specs.Prelude.{codes, find, fold, nat_lt, slice_get, encode_utf8, drop}
+-- A parse of one level that finds no fault leaves no row without a value, no subresource but `status`
+-- and no depth but a number from 1 to 1,000, where each argument is fed: it wants a value, or has one of
+-- its own, and the subresource and the depth can be no other.
+use Rattle.std.proofs.Common.{◌≡◌, ◌∙◌, ◌==◌, ℕ, ℤ, ap, Bool, cond, true, false, not, zero, suc, refl, sym, subst, List, [], ◌∷◌, ◌++◌, length, Option, Some, None, is_some, true≢false, ◌&&◌, ◌||◌}
+use Rattle.std.specs.Prelude.{codes, pos, negsuc, find, fold, nat_lt, slice_get, encode_utf8, drop}
 use Rattle.std.specs.Borrow.{Bor}
 use Rattle.std.specs.List.{list_all, list_any}
 use Rattle.std.specs.Option.{option_map_or}
@@ -12,7 +12,8 @@ use Rattle.clap.specs.Facts.{parser_of_value, unwrap_or_range}
 use Rattle.clap.specs.Walk.{Held, Names, Outcome, Row, Rule, Step, Text, Waiting, Walk, action_of, after_flag, after_step, arg_by_id, arg_by_index, arg_by_long, arg_by_short, at_row, attached_value, bundle, bundle_met, bundle_step, default_rows, done, flag_met, idle, is_empty, is_pending, long_met, long_or_other, more_values, most_values, next, option, option_met, plain, plain_word, positional, positional_held, reacted, reading_by, refused, settled, settled_rows, short_met, short_or_plain, subcommand, subcommand_met, subcommand_or_other, takes_several, takes_values, to_positional, trailing, used, used_as, used_by_id, value, values_or_missing, waits, walked, walked_from, with_default, with_values, without, word_met, has_row, option_word}
 use Rattle.clap.specs.Simple.{Shape}
 use Rattle.clap.specs.Kinds.{Kinds, or_else, range_kinds, value_kinds, values_kinds}
-use Rattle.clap.specs.Values.{same_text}
+use Rattle.clap.specs.Values.{IsSignedIn, same_text}
+use Rattle.clap.specs.ValueTests.{is_signed_in}
 use Rattle.clap.specs.Faults.{action_fault, bundle_fault, bundle_step_fault, flag_word_fault, flags_fault, long_fault, option_fault, other_fault, positional_fault, react_fault, repeat_fault, set_fault, settle_fault, short_fault, step_fault, turn_fault, use_fault, values_fault, walk_fault, word_fault}
 use Rattle.std.proofs.lemmas.Slice.Eq.{bytes_eq-Decides}
 use Rattle.clap.specs.declared.builder.value_parser.ValueParser.{ValueParser}
@@ -24,7 +25,9 @@ use Rattle.clap.specs.declared.builder.action.ArgAction.TheVariants as action
 use Rattle.clap.specs.declared.error.kind.ErrorKind.TheVariants as kind
 use Rattle.clap.specs.declared.parser.matches.ValueSource.{ValueSource}
 use Rattle.clap.specs.declared.parser.matches.ValueSource.TheVariants.{DefaultValue, CommandLine}
+use Rattle.clap.proofs.ValueTestLemmas.{accepts-Accepts}
 use Rattle.clap.proofs.WalkLemmas.{both}
+use Rattle.std.proofs.lemmas.Bool.{eqb-true}
 
 -- ---- rows with values
 
@@ -33,18 +36,25 @@ abbrev pub HasValue : List Text → Type 0
 HasValue [] = ⊥
 HasValue (v ∷ vs) = Unit {0}
 
-abbrev pub AllStatus : List Text → Type 0
-AllStatus [] = Unit {0}
-AllStatus (v ∷ vs) = (v ≡ codes "status") × AllStatus vs
+abbrev pub AllAre : (Text → Type 0) → List Text → Type 0
+AllAre P [] = Unit {0}
+AllAre P (v ∷ vs) = P v × AllAre P vs
 
--- the subresource has no value but `status`
+abbrev pub IsStatusText : Text → Type 0
+IsStatusText v = v ≡ codes "status"
+
+-- a number from 1 to 1,000
+abbrev pub IsDepthText : Text → Type 0
+IsDepthText = IsSignedIn (pos 1) (pos 1000)
+
+-- the subresource has no value but `status`, and the depth none but a number from 1 to 1,000
 abbrev pub Fits : Text → List Text → Type 0
-Fits id values = id ≡ codes "subresource" → AllStatus values
+Fits id values = (id ≡ codes "subresource" → AllAre IsStatusText values) × (id ≡ codes "depth" → AllAre IsDepthText values)
 
 abbrev pub IsRight : Text → List Text → Type 0
 IsRight id values = HasValue values × Fits id values
 
--- each row has a value, and that of the subresource is `status`
+-- each row has a value, and those of the subresource and the depth fit
 abbrev pub Filled : List Row → Type 0
 Filled [] = Unit {0}
 Filled (r ∷ rs) = IsRight r.id r.values × Filled rs
@@ -57,12 +67,13 @@ value_more : (xs ys : List Text) → HasValue xs → HasValue (xs ++ ys)
 value_more [] ys h = absurd h
 value_more (x ∷ xs) ys h = tt
 
-status_more : (xs ys : List Text) → AllStatus xs → AllStatus ys → AllStatus (xs ++ ys)
-status_more [] ys f g = g
-status_more (x ∷ xs) ys f g = (f.0, status_more xs ys f.1 g)
+all_more : (P : Text → Type 0) (xs ys : List Text) → AllAre P xs → AllAre P ys → AllAre P (xs ++ ys)
+all_more P [] ys f g = g
+all_more P (x ∷ xs) ys f g = (f.0, all_more P xs ys f.1 g)
 
 right_more : (id : Text) (xs ys : List Text) → IsRight id xs → IsRight id ys → IsRight id (xs ++ ys)
-right_more id xs ys f g = (value_more xs ys f.0, λ is. status_more xs ys (f.1 is) (g.1 is))
+right_more id xs ys f g =
+    (value_more xs ys f.0, (λ is. all_more IsStatusText xs ys (f.1.0 is) (g.1.0 is), λ is. all_more IsDepthText xs ys (f.1.1 is) (g.1.1 is)))
 
 either_rows : (b : Bool) (xs ys : List Row) → Filled xs → Filled ys → Filled (cond b xs ys)
 either_rows true xs ys f g = f
@@ -117,9 +128,22 @@ are_none (v ∷ vs) = false
 abbrev narrow : Rule → Bool
 narrow a = not (bytes_eq a.id (codes "subresource")) || (are_none a.defaults && (not a.ignore_case && takes_status a.parser))
 
--- the argument wants a value, or has one of its own, and the subresource can be `status` alone
+abbrev is_pos : ℕ → ℤ → Bool
+is_pos n (pos m) = m == n
+is_pos n _ = false
+
+-- the argument takes the numbers from 1 to 1,000 alone
+abbrev takes_depths : Option ValueParser → Bool
+takes_depths (Some (vp.Signed low high)) = is_pos 1 low && is_pos 1000 high
+takes_depths _ = false
+
+-- the depth has such numbers for a default, and takes them alone
+abbrev bounded : Rule → Bool
+bounded a = not (bytes_eq a.id (codes "depth")) || (list_all (is_signed_in (pos 1) (pos 1000)) a.defaults && takes_depths a.parser)
+
+-- the argument wants a value, or has one of its own, the subresource can be `status` alone, and the depth a number from 1 to 1,000
 abbrev pub fed : Rule → Bool
-fed a = fed_as (action_of a) a && narrow a
+fed a = fed_as (action_of a) a && (narrow a && bounded a)
 
 -- ---- the value of the subresource
 
@@ -137,13 +161,13 @@ passed true k e = refl
 passed false k e = cc
 
 choice_fits : (names : Bor (List (Bor Text))) (values : List Text) → one_status names.now ≡ true → values_kinds false (vp.Names names) values ≡ []
-    → AllStatus values
+    → AllAre IsStatusText values
 choice_fits names [] t e = tt
 choice_fits names (v ∷ vs) t e =
     let faults = or_else_nil (value_kinds false (vp.Names names) v) _ e in
     (accepted names.now v t (passed _ _ faults.0), choice_fits names vs t faults.1)
 
-values_fit : (p : Option ValueParser) (values : List Text) → takes_status p ≡ true → values_kinds false (parser_of_value p) values ≡ [] → AllStatus values
+values_fit : (p : Option ValueParser) (values : List Text) → takes_status p ≡ true → values_kinds false (parser_of_value p) values ≡ [] → AllAre IsStatusText values
 values_fit (Some (vp.Names names)) values t e = choice_fits names values t e
 values_fit None values t e = absurd (true≢false (sym t))
 values_fit (Some vp.String) values t e = absurd (true≢false (sym t))
@@ -157,29 +181,87 @@ values_fit (Some vp.Float) values t e = absurd (true≢false (sym t))
 values_fit (Some vp.Char) values t e = absurd (true≢false (sym t))
 values_fit (Some (vp.Values names)) values t e = absurd (true≢false (sym t))
 
+under_name : (id name : Text) (x : Bool) → (not (bytes_eq id name) || x) ≡ true → id ≡ name → x ≡ true
+under_name id name x n is = go (bytes_eq id name) ((bytes_eq-Decides id name).1 is) n
+  where
+    go : (b : Bool) → b ≡ true → (not b || x) ≡ true → x ≡ true
+    go true t e = e
+    go false t e = absurd (true≢false (sym t))
+
 -- what is said of the subresource, at an argument that is it
 of_subresource : (a : Rule) → narrow a ≡ true → a.id ≡ codes "subresource" → (are_none a.defaults && (not a.ignore_case && takes_status a.parser)) ≡ true
-of_subresource a n is = under (bytes_eq a.id (codes "subresource")) _ ((bytes_eq-Decides a.id (codes "subresource")).1 is) n
-  where
-    under : (b x : Bool) → b ≡ true → (not b || x) ≡ true → x ≡ true
-    under true x t e = e
-    under false x t e = absurd (true≢false (sym t))
+of_subresource a n is = under_name a.id (codes "subresource") _ n is
 
 not_true : (b : Bool) → not b ≡ true → b ≡ false
 not_true true e = absurd (true≢false (sym e))
 not_true false e = refl
 
-narrow_fits : (a : Rule) (values : List Text) → narrow a ≡ true → values_fault a values ≡ [] → Fits a.id values
+narrow_fits : (a : Rule) (values : List Text) → narrow a ≡ true → values_fault a values ≡ [] → a.id ≡ codes "subresource" → AllAre IsStatusText values
 narrow_fits a values n e is =
     let is_so = both _ _ (both _ _ (of_subresource a n is)).1 in
     values_fit a.parser values is_so.1 (subst (λ b. values_kinds b (parser_of_value a.parser) values ≡ []) (not_true a.ignore_case is_so.0) e)
 
-defaults_fit : (a : Rule) → narrow a ≡ true → Fits a.id a.defaults
-defaults_fit a n is = go a.defaults (both _ _ (of_subresource a n is)).0
+no_default_fits : (a : Rule) → narrow a ≡ true → a.id ≡ codes "subresource" → AllAre IsStatusText a.defaults
+no_default_fits a n is = go a.defaults (both _ _ (of_subresource a n is)).0
   where
-    go : (values : List Text) → are_none values ≡ true → AllStatus values
+    go : (values : List Text) → are_none values ≡ true → AllAre IsStatusText values
     go [] e = tt
     go (v ∷ vs) e = absurd (true≢false (sym e))
+
+-- ---- the value of the depth
+
+is_pos_is : (n : ℕ) (z : ℤ) → is_pos n z ≡ true → z ≡ pos n
+is_pos_is n (pos m) e = ap pos (eqb-true m n e)
+is_pos_is n (negsuc m) e = absurd (true≢false (sym e))
+
+depth_from : (v : Text) → is_signed_in (pos 1) (pos 1000) v ≡ true → IsDepthText v
+depth_from v e = accepts-Accepts false (vp.Signed (pos 1) (pos 1000)) v e
+
+signed_fit : (ignore_case : Bool) (low high : ℤ) (values : List Text) → low ≡ pos 1 → high ≡ pos 1000
+    → values_kinds ignore_case (vp.Signed low high) values ≡ [] → AllAre IsDepthText values
+signed_fit ignore_case low high [] l h e = tt
+signed_fit ignore_case low high (v ∷ vs) l h e =
+    let faults = or_else_nil (value_kinds ignore_case (vp.Signed low high) v) _ e in (
+      depth_from v (subst (λ z. is_signed_in (pos 1) z v ≡ true) h (subst (λ z. is_signed_in z high v ≡ true) l (passed _ _ faults.0))),
+      signed_fit ignore_case low high vs l h faults.1,
+    )
+
+depths_fit : (ignore_case : Bool) (p : Option ValueParser) (values : List Text) → takes_depths p ≡ true
+    → values_kinds ignore_case (parser_of_value p) values ≡ [] → AllAre IsDepthText values
+depths_fit ignore_case (Some (vp.Signed low high)) values t e =
+    let ends = both _ _ t in signed_fit ignore_case low high values (is_pos_is 1 low ends.0) (is_pos_is 1000 high ends.1) e
+depths_fit ignore_case None values t e = absurd (true≢false (sym t))
+depths_fit ignore_case (Some vp.String) values t e = absurd (true≢false (sym t))
+depths_fit ignore_case (Some vp.NonEmptyString) values t e = absurd (true≢false (sym t))
+depths_fit ignore_case (Some vp.Bool) values t e = absurd (true≢false (sym t))
+depths_fit ignore_case (Some vp.Boolish) values t e = absurd (true≢false (sym t))
+depths_fit ignore_case (Some vp.Falsey) values t e = absurd (true≢false (sym t))
+depths_fit ignore_case (Some (vp.Unsigned low high)) values t e = absurd (true≢false (sym t))
+depths_fit ignore_case (Some vp.Float) values t e = absurd (true≢false (sym t))
+depths_fit ignore_case (Some vp.Char) values t e = absurd (true≢false (sym t))
+depths_fit ignore_case (Some (vp.Names names)) values t e = absurd (true≢false (sym t))
+depths_fit ignore_case (Some (vp.Values names)) values t e = absurd (true≢false (sym t))
+
+-- what is said of the depth, at an argument that is it
+of_depth : (a : Rule) → bounded a ≡ true → a.id ≡ codes "depth" → (list_all (is_signed_in (pos 1) (pos 1000)) a.defaults && takes_depths a.parser) ≡ true
+of_depth a b is = under_name a.id (codes "depth") _ b is
+
+own_depths_fit : (a : Rule) → bounded a ≡ true → a.id ≡ codes "depth" → AllAre IsDepthText a.defaults
+own_depths_fit a b is = go a.defaults (both _ _ (of_depth a b is)).0
+  where
+    go : (values : List Text) → list_all (is_signed_in (pos 1) (pos 1000)) values ≡ true → AllAre IsDepthText values
+    go [] e = tt
+    go (v ∷ vs) e = let parts = both _ _ e in (depth_from v parts.0, go vs parts.1)
+
+-- ---- what is said of both
+
+given_fit : (a : Rule) (values : List Text) → (narrow a && bounded a) ≡ true → values_fault a values ≡ [] → Fits a.id values
+given_fit a values n e =
+    let is_so = both _ _ n in
+    (narrow_fits a values is_so.0 e, λ is. depths_fit a.ignore_case a.parser values (both _ _ (of_depth a is_so.1 is)).1 e)
+
+defaults_fit : (a : Rule) → (narrow a && bounded a) ≡ true → Fits a.id a.defaults
+defaults_fit a n = let is_so = both _ _ n in (no_default_fits a is_so.0, own_depths_fit a is_so.1)
 
 -- ---- the values of a use
 
@@ -199,12 +281,12 @@ own_value : (a : Rule) (values : List Text) → not (is_empty a.missing) ≡ tru
 own_value a [] e = some_value a.missing e
 own_value a (v ∷ vs) e = tt
 
-module _ (again : Bool) (a : Rule) (values : List Text) (rows : List Row) (n : narrow a ≡ true) (f : Filled rows) where
+module _ (again : Bool) (a : Rule) (values : List Text) (rows : List Row) (n : (narrow a && bounded a) ≡ true) (f : Filled rows) where
   set_filled : HasValue (values_or_missing a values) → set_fault again a (values_or_missing a values) rows ≡ []
       → Filled (with_values a.id (reading_by a) CommandLine (values_or_missing a values) (without a.id rows))
   set_filled v e =
       with_values_filled a.id (reading_by a) CommandLine (values_or_missing a values) (without a.id rows)
-      (v, narrow_fits a (values_or_missing a values) n (or_else_nil (repeat_fault again a.id rows) _ e).1) (without_filled a.id rows f)
+      (v, given_fit a (values_or_missing a values) n (or_else_nil (repeat_fault again a.id rows) _ e).1) (without_filled a.id rows f)
 
   used_as_filled : (x : ArgAction) → fed_as x a ≡ true
       → range_kinds (unwrap_or_range a.range).start_inclusive (most_values a) (length values) ≡ []
@@ -397,7 +479,7 @@ defaulted_filled : (values : List Text) (id : Text) (how : Reading) (rows : List
 defaulted_filled [] id how rows fit f = f
 defaulted_filled (v ∷ vs) id how rows fit f = with_values_filled id how DefaultValue (v ∷ vs) rows (tt, fit) f
 
--- with the defaults put in, each row still has a value, and that of the subresource is `status`
+-- with the defaults put in, each row still has a value, and those of the subresource and the depth fit
 pub defaults_filled : (c : List Rule) (rows : List Row) → list_all fed c ≡ true → Filled rows → Filled (fold with_default rows c)
 defaults_filled [] rows is_fed f = f
 defaults_filled (a ∷ c) rows is_fed f =

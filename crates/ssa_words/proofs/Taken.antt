@@ -1,5 +1,5 @@
 -- Where clap finds no fault, the word that it met has a text for each argument that is required or
--- has a default, and none for the subresource but `status`.
+-- has a default, none for the subresource but `status`, and none for the depth but a number from 1 to 1,000.
 use Rattle.std.proofs.Common.{◌≡◌, ◌∙◌, Bool, cond, true, false, not, refl, sym, subst, List, [], ◌∷◌, ◌++◌, Option, Some, None, is_some, true≢false, ◌&&◌, ◌||◌}
 use Rattle.std.specs.Prelude.{IfSome, codes, find, fold, option_and_then, option_map, slice_get}
 use Rattle.std.specs.List.{list_all, list_any}
@@ -15,8 +15,8 @@ use Rattle.clap.specs.Faults.{defaults_fault, entered_fault, fault_of, level_fau
 use Rattle.clap.specs.declared.parser.matches.ValueSource.TheVariants.{DefaultValue}
 use Rattle.clap.specs.declared.builder.value_parser.Reading.{Reading}
 use Rattle.clap.proofs.WalkLemmas.{both}
-use Rattle.ssa_words.specs.Calls.{HasStatusAtMost, HasTexts, IsWhole, IsWholeMatch, has_texts, wanted}
-use Rattle.ssa_words.proofs.Filled.{AllStatus, Filled, HasValue, defaults_filled, fed, or_else_nil, settle_filled, walk_filled}
+use Rattle.ssa_words.specs.Calls.{HasDepthAtMost, HasStatusAtMost, HasTexts, IsWhole, IsWholeMatch, has_texts, wanted}
+use Rattle.ssa_words.proofs.Filled.{AllAre, Filled, Fits, HasValue, IsDepthText, IsStatusText, defaults_filled, fed, or_else_nil, settle_filled, walk_filled}
 use Rattle.std.proofs.lemmas.Bool.{or_parts, or_right}
 
 -- ---- the text of a row
@@ -35,19 +35,29 @@ text_of_row id (r ∷ rs) e f = go (λ t. text_of_row id rs t f.1) (bytes_eq r.i
     go rest true e = text_of_values r.values f.0.0
     go rest false e = rest e
 
+-- the first of values that all are so is so
+first_is : (P : Text → Type 0) (values : List Text) → AllAre P values → IfSome (slice_get values 0) P
+first_is P [] f = tt
+first_is P (v ∷ vs) f = f.0
+
+-- the text of a name is so, where there is one, if all values of its row are
+first_fits : (id : Text) (P : Text → Type 0) (rows : List Row) → ((i : Text) (vs : List Text) → Fits i vs → i ≡ id → AllAre P vs) → Filled rows
+    → IfSome (first_of id rows) P
+first_fits id P [] each f = tt
+first_fits id P (r ∷ rs) each f = go (first_fits id P rs each f.1) (bytes_eq r.id id) refl
+  where
+    go : IfSome (first_of id rs) P → (b : Bool) → bytes_eq r.id id ≡ b
+        → IfSome (option_and_then (λ x. slice_get x.values 0) (cond b (Some r) (find (λ x. bytes_eq x.id id) rs))) P
+    go rest true t = first_is P r.values (each r.id r.values f.0.1 ((bytes_eq-Decides r.id id).0 t))
+    go rest false t = rest
+
 -- the text of the subresource is `status`, where there is one
 status_at_most : (rows : List Row) → Filled rows → HasStatusAtMost rows
-status_at_most [] f = tt
-status_at_most (r ∷ rs) f = go (status_at_most rs f.1) (bytes_eq r.id (codes "subresource")) refl
-  where
-    first : (values : List Text) → AllStatus values → IfSome (slice_get values 0) (λ t. t ≡ codes "status")
-    first [] f = tt
-    first (v ∷ vs) f = f.0
+status_at_most rows f = first_fits (codes "subresource") IsStatusText rows (λ i vs fits. fits.0) f
 
-    go : HasStatusAtMost rs → (b : Bool) → bytes_eq r.id (codes "subresource") ≡ b
-        → IfSome (option_and_then (λ x. slice_get x.values 0) (cond b (Some r) (find (λ x. bytes_eq x.id (codes "subresource")) rs))) (λ t. t ≡ codes "status")
-    go rest true t = first r.values (f.0.1 ((bytes_eq-Decides r.id (codes "subresource")).0 t))
-    go rest false t = rest
+-- that of the depth is a number from 1 to 1,000
+depth_at_most : (rows : List Row) → Filled rows → HasDepthAtMost rows
+depth_at_most rows f = first_fits (codes "depth") IsDepthText rows (λ i vs fits. fits.1) f
 
 given_row : (id : Text) (rows : List Row) → is_given id rows ≡ true → is_some (find (λ r. bytes_eq r.id id) rows) ≡ true
 given_row id rows e = go (find (λ r. bytes_eq r.id id) rows) e
@@ -177,7 +187,7 @@ last_check false true x e = cc
 last_check false false true e = cc
 last_check false false false e = (refl, refl)
 
--- where no fault is found on a level, each row has a value, and that of the subresource is `status`
+-- where no fault is found on a level, each row has a value, and those of the subresource and the depth fit
 level_filled : (s : Shape) (words : List Text) → list_all fed s.rules ≡ true → level_fault s [] nothing_held words false [] ≡ []
     → Filled (rows_after s.rules [] words)
 level_filled s words is_fed e =
@@ -230,7 +240,9 @@ each_text (id ∷ ids) c rows each e =
 
 whole : (s : Shape) (words : List Text) → is_good s ≡ true → level_fault s [] nothing_held words false [] ≡ [] → IsWhole s.name (rows_after s.rules [] words)
 whole s words good e =
-    (go (find (λ w. bytes_eq w.0 s.name) wanted) (both _ _ good).1, status_at_most (rows_after s.rules [] words) (level_filled s words (both _ _ good).0 e))
+    let rows = rows_after s.rules [] words in
+    let filled = level_filled s words (both _ _ good).0 e in
+    (go (find (λ w. bytes_eq w.0 s.name) wanted) (both _ _ good).1, status_at_most rows filled, depth_at_most rows filled)
   where
     go : (o : Option (Text × List Text)) → are_wanted s.rules o ≡ true → HasTexts (rows_after s.rules [] words) o
     go None w = absurd (true≢false (sym w))

@@ -1,8 +1,9 @@
 -- Which call the words are, and why others are none.
-use Rattle.std.specs.Prelude.{◌≡◌, Bool, List, [], Option, Some, None, codes, find, option_and_then, is_some, true, false, ◌∷◌, IfSome}
+use Rattle.std.specs.Prelude.{◌≡◌, ℕ, Bool, List, [], Option, Some, None, codes, find, option_and_then, is_some, pos, true, false, ◌∷◌, IfSome}
 use Rattle.std.specs.List.{list_all}
 use Rattle.std.specs.Str.{bytes_eq}
-use Rattle.clap.specs.Words.{IsAmong, Row, Text, fault_of, first_of, subcommand_of}
+use Rattle.std.specs.Str.Parse.{signed_digits_value}
+use Rattle.clap.specs.Words.{IsAmong, IsSignedIn, Row, Text, fault_of, first_of, subcommand_of}
 use Rattle.clap.specs.declared.error.kind.ErrorKind.{ErrorKind}
 use Rattle.clap.specs.declared.error.kind.ErrorKind.TheVariants as kind
 use Rattle.clap.specs.declared.parser.matches.ValueSource.{ValueSource}
@@ -29,7 +30,7 @@ was_given id rows = by_words (option_and_then (λ r. r.source) (find (λ r. byte
 
 -- each word with the arguments of which a text is matched
 abbrev pub wanted : List (Text × List Text)
-wanted = (codes "init", codes "SCHEMA" ∷ codes "OBJECT" ∷ codes "BENCH" ∷ [])
+wanted = (codes "init", codes "SCHEMA" ∷ codes "OBJECT" ∷ codes "BENCH" ∷ codes "depth" ∷ [])
     ∷ (codes "apply", codes "BENCH" ∷ codes "FILE" ∷ codes "at" ∷ codes "field-manager" ∷ [])
     ∷ (codes "update", codes "BENCH" ∷ codes "FILE" ∷ codes "at" ∷ codes "field-manager" ∷ [])
     ∷ (codes "strip", codes "BENCH" ∷ [])
@@ -52,9 +53,13 @@ HasTexts rows (Some w) = has_texts rows w.1 ≡ true
 abbrev pub HasStatusAtMost : List Row → Type 0
 HasStatusAtMost rows = IfSome (first_of (codes "subresource") rows) (λ t. t ≡ codes "status")
 
--- it is a word of the table, each of its texts is there, and no subresource but `status`
+-- no depth but a number from 1 to 1,000 is matched
+abbrev pub HasDepthAtMost : List Row → Type 0
+HasDepthAtMost rows = IfSome (first_of (codes "depth") rows) (IsSignedIn (pos 1) (pos 1000))
+
+-- it is a word of the table, each of its texts is there, no subresource but `status` and no depth but a number from 1 to 1,000
 abbrev pub IsWhole : Text → List Row → Type 0
-IsWhole name rows = HasTexts rows (find (λ w. bytes_eq w.0 name) wanted) × HasStatusAtMost rows
+IsWhole name rows = HasTexts rows (find (λ w. bytes_eq w.0 name) wanted) × HasStatusAtMost rows × HasDepthAtMost rows
 
 abbrev pub IsWholeMatch : Option (Text × List Row) → Type 0
 IsWholeMatch None = ⊥
@@ -67,10 +72,14 @@ abbrev pub IsThrough : List Row → Bool → Type 0
 IsThrough rows true = HasText rows (codes "subresource") (codes "status")
 IsThrough rows false = first_of (codes "subresource") rows ≡ None
 
+-- the number is the one whose text is matched
+abbrev pub IsDepth : List Row → ℕ → Type 0
+IsDepth rows depth = (text : Text) × HasText rows (codes "depth") text × (signed_digits_value 10 text ≡ pos depth)
+
 -- The call is the word of this name with what was matched for it.
 abbrev pub IsCallOf : Text → List Row → Call → Type 0
-IsCallOf name rows (Init schema object bench) = (name ≡ codes "init") × HasText rows (codes "SCHEMA") schema.now
-    × HasText rows (codes "OBJECT") object.now × HasText rows (codes "BENCH") bench.now
+IsCallOf name rows (Init schema object bench depth) = (name ≡ codes "init") × HasText rows (codes "SCHEMA") schema.now
+    × HasText rows (codes "OBJECT") object.now × HasText rows (codes "BENCH") bench.now × IsDepth rows depth
 IsCallOf name rows (Apply bench file at manager status force) = (name ≡ codes "apply") × HasText rows (codes "BENCH") bench.now
     × HasText rows (codes "FILE") file.now × HasText rows (codes "at") at.now
     × HasText rows (codes "field-manager") manager.now × IsThrough rows status

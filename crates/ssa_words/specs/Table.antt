@@ -1,6 +1,6 @@
 -- The table of the program's words, as clap reads a command: the code builds its command from it,
 -- and the contracts speak of it.
-use Rattle.std.specs.Prelude.{◌≡◌, ◌∷◌, ◌++◌, List, [], Some, false, true, codes}
+use Rattle.std.specs.Prelude.{◌≡◌, ◌∷◌, ◌++◌, List, [], Some, false, pos, true, codes}
 use Rattle.std.specs.Borrow.{Bor}
 use Rattle.clap.specs.Words.{App, Rule, Shape, Text, app_of, new_rule}
 use Rattle.clap.specs.Simple.{new_shape}
@@ -9,7 +9,7 @@ use Rattle.clap.specs.declared.builder.arg.Arg.{Arg}
 use Rattle.clap.specs.declared.builder.command.Command.{Command}
 use Rattle.clap.specs.declared.builder.command.Command.TheViews.{out-Command}
 use Rattle.clap.specs.declared.builder.action.ArgAction.TheVariants.{SetTrue}
-use Rattle.clap.specs.declared.builder.value_parser.ValueParser.TheVariants.{Names}
+use Rattle.clap.specs.declared.builder.value_parser.ValueParser.TheVariants.{Names, Signed}
 
 -- a word that has to stand at its place
 abbrev pub place : Text → Rule
@@ -47,6 +47,15 @@ subresource names = record (new_rule (codes "subresource")) {
   parser = Some (Names names);
 }
 
+-- `--depth N`, with a number from 1 to 1,000
+abbrev pub depth : Rule
+depth = record (new_rule (codes "depth")) {
+  long = Some (codes "depth");
+  value_names = 1;
+  parser = Some (Signed (pos 1) (pos 1000));
+  defaults = codes "1000" ∷ [];
+}
+
 -- `--NAME`, given or not
 abbrev pub flag : Text → Rule
 flag name = record (new_rule name) { long = Some name; action = Some SetTrue }
@@ -62,7 +71,7 @@ abbrev pub word : Text → List Rule → App
 word name rules = record { top = record (new_shape name) { rules = rules }; subs = [] }
 
 abbrev pub init : App
-init = word (codes "init") (place (codes "SCHEMA") ∷ place (codes "OBJECT") ∷ bench ∷ [])
+init = word (codes "init") (place (codes "SCHEMA") ∷ place (codes "OBJECT") ∷ bench ∷ depth ∷ [])
 
 -- a word with a bench, a file and a moment, and with more
 abbrev pub timed : Text → List Rule → App

@@ -2,7 +2,7 @@
 use Rattle.std.specs.Prelude.{◌≡◌, ◌∷◌, ◌++◌, List, [], Bool, Option, None, Some, codes, false, option_and_then, true}
 use Rattle.std.specs.Option.{option_map_or}
 use Rattle.clap.specs.Words.{Text, fault_of, first_of, subcommand_of}
-use Rattle.clap.specs.declared.error.kind.ErrorKind.TheVariants.{ArgumentConflict, DisplayHelp, InvalidSubcommand, InvalidValue, MissingRequiredArgument, UnknownArgument}
+use Rattle.clap.specs.declared.error.kind.ErrorKind.TheVariants.{ArgumentConflict, DisplayHelp, InvalidSubcommand, InvalidValue, MissingRequiredArgument, UnknownArgument, ValueValidation}
 use Rattle.ssa_words.specs.Table.{Choice, IsStatus, table}
 use Rattle.ssa_words.specs.Calls.{was_given}
 
@@ -23,6 +23,12 @@ update_by_one_word = codes "update" ∷ codes "b" ∷ codes "f" ∷ at_t (codes 
 
 abbrev pub by_m_with_force : List Text
 by_m_with_force = apply_of_b_f (at_t (codes "--field-manager" ∷ codes "m" ∷ codes "--force-conflicts" ∷ []))
+
+abbrev pub init_s_o_b : List Text → List Text
+init_s_o_b more = codes "init" ∷ codes "s" ∷ codes "o" ∷ codes "b" ∷ more
+
+abbrev pub with_depth : Text → List Text
+with_depth n = init_s_o_b (codes "--depth" ∷ n ∷ [])
 
 abbrev pub show_managed : List Text
 show_managed = codes "show" ∷ codes "b" ∷ codes "--show-managed-fields" ∷ []
@@ -72,6 +78,25 @@ module _ (names : Choice) where
       × (fault_of (table names) (apply_of_b_f (at_t (codes "--subresource" ∷ []))) ≡ InvalidValue ∷ [])
       × (fault_of (table names) (apply_of_b_f (at_t (through_status ++ through_status))) ≡ ArgumentConflict ∷ [])
       × (fault_of (table names) (codes "strip" ∷ codes "b" ∷ through_status) ≡ UnknownArgument ∷ [])
+
+  -- `init s o b` is of depth 1000, and of that which the words give, from 1 to 1000.
+  abbrev pub DepthIsRead : Type 0
+  DepthIsRead = (fault_of (table names) (init_s_o_b []) ≡ [])
+      × (text_in (codes "BENCH") (init_s_o_b []) ≡ Some (codes "b"))
+      × (text_in (codes "depth") (init_s_o_b []) ≡ Some (codes "1000"))
+      × (fault_of (table names) (with_depth (codes "1")) ≡ [])
+      × (text_in (codes "depth") (with_depth (codes "1")) ≡ Some (codes "1"))
+      × (fault_of (table names) (with_depth (codes "1000")) ≡ [])
+
+  -- Another depth is refused, and so is one where nothing is written, and one that is given to another word.
+  abbrev pub OtherDepthsAreRefused : Type 0
+  OtherDepthsAreRefused = (fault_of (table names) (with_depth (codes "0")) ≡ ValueValidation ∷ [])
+      × (fault_of (table names) (with_depth (codes "1001")) ≡ ValueValidation ∷ [])
+      × (fault_of (table names) (with_depth (codes "99999999999999999999")) ≡ ValueValidation ∷ [])
+      × (fault_of (table names) (with_depth (codes "ten")) ≡ ValueValidation ∷ [])
+      × (fault_of (table names) (init_s_o_b (codes "--depth=-1" ∷ [])) ≡ ValueValidation ∷ [])
+      × (fault_of (table names) (init_s_o_b (codes "--depth" ∷ [])) ≡ InvalidValue ∷ [])
+      × (fault_of (table names) (codes "strip" ∷ codes "b" ∷ codes "--depth" ∷ codes "2" ∷ []) ≡ UnknownArgument ∷ [])
 
   -- `show b --show-managed-fields` shows them.
   abbrev pub ShowIsRead : Type 0

@@ -1,4 +1,5 @@
 //! What the words of the program ask for.
+use ssa_reverse::depth::Depth;
 
 /// A word of the program, with what stands behind it.
 #[derive(Clone, Copy, Debug, Drop, PartialEq, Eq)]
@@ -8,6 +9,8 @@ pub enum Call<'a> {
         schema: &'a str,
         object: &'a str,
         bench: &'a str,
+        /// How many commands it keeps to be undone.
+        depth: Depth,
     },
     /// Apply the object of a file.
     Apply {

@@ -4,7 +4,7 @@ ghost use Rattle.clap.specs.Words.{App, with_subcommand};
 ghost use Rattle.ssa_words.specs.Table as spec;
 
 use clap::builder::ValueParser;
-use clap::{Arg, ArgAction, Command};
+use clap::{Arg, ArgAction, Command, value_parser};
 use std::alloc::{AllocError, Global};
 
 // A word that has to stand at its place.
@@ -57,6 +57,18 @@ fn subresource<'a>(alloc: Global, names: &'a [&'a str]) -> Arg<'a>
         .help("The subresource that the command acts through")
 }
 
+// How many commands the bench keeps to be undone.
+fn depth<'a>(alloc: Global) -> Arg<'a>
+    ensures { spec.IsArg spec.depth result }
+{
+    Arg::new(alloc, "depth")
+        .long("depth")
+        .value_name("N")
+        .value_parser(value_parser!(u16).range(1..=1_000))
+        .default_value("1000")
+        .help("How many commands can be undone, from 1 to 1000")
+}
+
 // `--name`, given or not.
 fn flag<'a>(alloc: Global, name: &'a str, help: &'a str) -> Arg<'a>
     ensures { spec.IsArg (spec.flag name.entry.now) result }
@@ -74,7 +86,8 @@ fn init<'a>(alloc: Global) -> Result<Command<'a>, AllocError>
         .about("Makes a bench of a schema and an object")
         .arg(place(alloc, "SCHEMA", "The file of the schema in JSON"))?
         .arg(place(alloc, "OBJECT", "The file of the object in JSON"))?
-        .arg(bench(alloc))
+        .arg(bench(alloc))?
+        .arg(depth(alloc))
 }
 
 // A word with a bench, a file and a moment.

@@ -1,7 +1,7 @@
 //! Reads the words behind the program's own name.
-ghost use Rattle.std.specs.Prelude.{◌≡◌, ◌∷◌, [], MatchResult, Some, codes, is_some, map, true};
+ghost use Rattle.std.specs.Prelude.{◌≡◌, ◌≤◌, ◌∷◌, [], MatchResult, Some, codes, is_some, map, true};
 ghost use Rattle.clap.specs.Words.{first_of, found_of, rows_of, subcommand_rows_of};
-ghost use Rattle.ssa_words.specs.Calls.{HasStatusAtMost, IsCall, IsCallOf, IsMatched, IsThrough, IsUsage, IsWhole, IsWholeMatch, has_texts, was_given};
+ghost use Rattle.ssa_words.specs.Calls.{HasDepthAtMost, HasStatusAtMost, IsCall, IsCallOf, IsDepth, IsMatched, IsThrough, IsUsage, IsWhole, IsWholeMatch, has_texts, was_given};
 ghost use Rattle.ssa_words.specs.Table.{IsStatus};
 
 use crate::call::Call;
@@ -9,6 +9,7 @@ use crate::table::program;
 use crate::usage::Usage;
 use clap::ArgMatches;
 use clap::parser::ValueSource;
+use ssa_reverse::depth::Depth;
 use std::alloc::Global;
 use std::convert::AsStr;
 
@@ -103,14 +104,41 @@ fn is_through_status(found: &ArgMatches<'_>) -> bool
 }
 
 fn init<'a>(found: &ArgMatches<'a>) -> Call<'a>
-    requires { has_texts (rows_of (found_of found.now))
-        (codes "SCHEMA" ∷ codes "OBJECT" ∷ codes "BENCH" ∷ []) ≡ true }
+    requires texts { has_texts (rows_of (found_of found.now))
+        (codes "SCHEMA" ∷ codes "OBJECT" ∷ codes "BENCH" ∷ codes "depth" ∷ []) ≡ true }
+    requires depth { HasDepthAtMost (rows_of (found_of found.now)) }
     ensures { IsCallOf (codes "init") (rows_of (found_of found.now)) result }
 {
     Call::Init {
         schema: text(found, "SCHEMA"),
         object: text(found, "OBJECT"),
         bench: text(found, "BENCH"),
+        depth: depth(found),
+    }
+}
+
+// The number of the depth that was matched, by the words or by its default.
+fn depth_number(found: &ArgMatches<'_>) -> u16
+    requires texts { has_texts (rows_of (found_of found.now)) (codes "depth" ∷ []) ≡ true }
+    requires depth { HasDepthAtMost (rows_of (found_of found.now)) }
+    ensures value { IsDepth (rows_of (found_of found.now)) result }
+    ensures least { 1 ≤ result }
+    ensures most { result ≤ 1000 }
+{
+    match text(found, "depth").parse::<u16>() {
+        Ok(number) => number,
+        Err(_) => unreachable!("a number from 1 to 1,000 is matched"),
+    }
+}
+
+fn depth(found: &ArgMatches<'_>) -> Depth
+    requires texts { has_texts (rows_of (found_of found.now)) (codes "depth" ∷ []) ≡ true }
+    requires depth { HasDepthAtMost (rows_of (found_of found.now)) }
+    ensures { IsDepth (rows_of (found_of found.now)) result }
+{
+    match Depth::new(depth_number(found)) {
+        Some(depth) => depth,
+        None => unreachable!("the number is from 1 to 1,000"),
     }
 }
 

@@ -5,21 +5,20 @@ ghost use Rattle.ssa_model.specs.definitions.BenchText.{whole_object};
 ghost use Rattle.ssa_model.specs.definitions.Formats.{can_tell_state, tells_parts};
 ghost use Rattle.ssa_model.specs.definitions.History.{appended, past_len, present};
 ghost use Rattle.ssa_model.specs.definitions.Json.{compact, same_text};
-ghost use Rattle.ssa_model.specs.definitions.Limits.{most_past};
 ghost use Rattle.ssa_model.specs.definitions.MemberNames.{has_rising_names};
 ghost use Rattle.ssa_model.specs.definitions.ToldParts.{has_subresource, tells_subresource};
 ghost use Rattle.ssa_model.specs.laws.LineByLine.{at_place, preceded, shown_in};
 ghost use Rattle.ssa_model.specs.laws.RecordedBenches.{present_in};
 ghost use Rattle.ssa_json.specs.Readings.{readings};
 ghost use Rattle.ssa_json.specs.View.{view};
-ghost use Rattle.ssa_file.specs.Heads.{head_view};
+ghost use Rattle.ssa_file.specs.Heads.{head_depth, head_view};
 ghost use Rattle.ssa_file.specs.Recording.{format_view};
 ghost use Rattle.ssa_bench.specs.Taking.{IsTaken, MovesBy, TellsMove};
 
 use super::Bench;
 use crate::record_reading::RecordReading;
 use crate::taking::{Step, answered_step, label_of, load_fault};
-use ssa_file::head::FileHead;
+use ssa_file::head::{FileHead, RecordCounts};
 use ssa_file::recording::RecordFormat;
 use ssa_json::value::Json;
 use ssa_lines::loading::{FileLine, LoadFault};
@@ -38,7 +37,7 @@ fn can_tell(format: RecordFormat, command: &Json, record: &Json) -> bool
         RecordFormat::Records => {
             command.member("subresource").is_none() && !tells_subresource(record)
         }
-        RecordFormat::Parts => true,
+        RecordFormat::Parts | RecordFormat::Depths => true,
     }
 }
 
@@ -52,13 +51,12 @@ impl Bench {
     ) -> Result<Bench, LoadFault>
         requires { line.text.items ≡ compact (view line.value) }
         ensures taken { IsTaken result (shown_in readings (head_view head.now) schema (view line.value)) }
+        ensures depth { IfOk result (λ b. b.depth ≡ head_depth head.now) }
         ensures lone { IfOk result (λ b. b.timeline ≡ lone_state b.timeline.first) }
     {
         match head {
             FileHead::States(_) => Bench::of_first_line(alloc, schema, line),
-            FileHead::Records(counts) => {
-                Bench::of_present_line(alloc, counts.format, schema, line)
-            }
+            FileHead::Records(counts) => Bench::of_present_line(alloc, counts, schema, line),
         }
     }
 
@@ -77,25 +75,26 @@ impl Bench {
     {
         match format {
             RecordFormat::Records => self.has_main_managers(),
-            RecordFormat::Parts => true,
+            RecordFormat::Parts | RecordFormat::Depths => true,
         }
     }
 
     // The bench of the present state that a line shows.
     fn of_present_line(
         alloc: Global,
-        format: RecordFormat,
+        counts: &RecordCounts,
         schema: Schema,
         line: FileLine,
     ) -> Result<Bench, LoadFault>
         requires { line.text.items ≡ compact (view line.value) }
-        ensures taken { IsTaken result (present_in readings (format_view format) schema (view line.value)) }
+        ensures taken { IsTaken result (present_in readings (format_view counts.now.format) counts.now.depth schema (view line.value)) }
+        ensures depth { IfOk result (λ b. b.depth ≡ counts.now.depth) }
         ensures lone { IfOk result (λ b. b.timeline ≡ lone_state b.timeline.first) }
     {
         let FileLine { value, text } = line;
-        match Bench::new(alloc, schema, value) {
+        match Bench::with_depth(alloc, schema, value, counts.depth) {
             Ok(bench) => {
-                if !bench.is_of_format(format) {
+                if !bench.is_of_format(counts.format) {
                     return Err(LoadFault::BenchText);
                 }
                 if bench.is_present_line(alloc, &text)? {
@@ -150,8 +149,9 @@ impl Bench {
     ) -> Result<(), LoadFault>
         requires names { has_rising_names (view line.now.value) ≡ true }
         requires first { past_len self.old.timeline ≡ 0 }
-        requires few { length self.old.timeline.later < most_past }
-        ensures { MovesBy (format_view format) preceded self.old self.new result (view line.now.value) }
+        requires few { length self.old.timeline.later < self.old.depth }
+        ensures moves { MovesBy (format_view format) preceded self.old self.new result (view line.now.value) }
+        ensures depth { self.new.depth ≡ self.old.depth }
     {
         let step = self.told_move(alloc, format, &line.value)?;
         self.timeline.precede(step.boxed(alloc)?)?;
@@ -166,8 +166,9 @@ impl Bench {
         line: &FileLine,
     ) -> Result<(), LoadFault>
         requires names { has_rising_names (view line.now.value) ≡ true }
-        requires few { past_len self.old.timeline < most_past }
-        ensures { MovesBy (format_view format) appended self.old self.new result (view line.now.value) }
+        requires few { past_len self.old.timeline < self.old.depth }
+        ensures moves { MovesBy (format_view format) appended self.old self.new result (view line.now.value) }
+        ensures depth { self.new.depth ≡ self.old.depth }
     {
         self.timeline.place_is_within();
         let step = self.told_move(alloc, format, &line.value)?;

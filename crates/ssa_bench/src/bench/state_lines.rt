@@ -51,6 +51,7 @@ impl Bench {
     ) -> Result<Bench, LoadFault>
         requires { line.text.items ≡ compact (view line.value) }
         ensures taken { IsTaken result (lone_in readings schema (view line.value)) }
+        ensures depth { IfOk result (λ b. b.depth ≡ most_past) }
         ensures lone { IfOk result (λ b. b.timeline ≡ lone_state b.timeline.first) }
     {
         let FileLine { value, text } = line;
@@ -112,8 +113,9 @@ impl Bench {
     // Goes on by the step that a line tells, and makes the record of its way back, with all room for its turns.
     pub(crate) fn take_line(&mut self, alloc: Global, line: FileLine) -> Result<(), LoadFault>
         requires spelled { line.text.items ≡ compact (view line.value) }
-        requires few { past_len self.old.timeline < most_past }
-        ensures { GoesOn self.old self.new result (view line.value) }
+        requires few { past_len self.old.timeline < self.old.depth }
+        ensures goes { GoesOn self.old self.new result (view line.value) }
+        ensures depth { self.new.depth ≡ self.old.depth }
     {
         self.timeline.place_is_within();
         let taken = self.step_of_line(alloc, line)?;

@@ -189,5 +189,5 @@ coded_schema = code_by (Json × Kind) (coded× coded_json coded_kind) (λ s. (s.
 
 abbrev pub coded_bench : Coded Bench
 coded_bench =
-    code_by (Schema × (Identity × Timeline)) (coded× coded_schema (coded× coded_identity coded_timeline)) (λ b. (b.schema, (b.identity, b.timeline)))
-    (λ p. record { schema = p.0; identity = p.1.0; timeline = p.1.1 }) (λ _. refl)
+    code_by (Schema × (Identity × (ℕ × Timeline))) (coded× coded_schema (coded× coded_identity (coded× coded_ℕ coded_timeline)))
+    (λ b. (b.schema, (b.identity, (b.depth, b.timeline)))) (λ p. record { schema = p.0; identity = p.1.0; depth = p.1.1.0; timeline = p.1.1.1 }) (λ _. refl)

@@ -16,7 +16,7 @@ use Rattle.ssa_model.specs.definitions.Readings.{Readings}
 use Rattle.ssa_model.specs.definitions.Commands.{text_in}
 use Rattle.ssa_model.specs.definitions.Entries.{object_of_state}
 use Rattle.ssa_model.specs.definitions.GivenEntries.{EntryFault, table_of}
-use Rattle.ssa_model.specs.definitions.History.{Label, applied, updated, stripped, Timeline, Bench, present, past_len, future_len, appended, moved_to, with_timeline, is_manager_name}
+use Rattle.ssa_model.specs.definitions.History.{Label, applied, updated, stripped, Timeline, Bench, present, past_len, future_len, advanced, moved_to, with_timeline, is_manager_name}
 
 pub data Fault : Type 0 where
   body_fault : BodyFault → Path → Fault
@@ -25,7 +25,6 @@ pub data Fault : Type 0 where
   entry_fault : EntryFault → Fault
   manager_name : Fault
   no_subresource : Fault
-  history_full : Fault
   nothing_to_undo : Fault
   nothing_to_redo : Fault
   refused : Refusal → Fault
@@ -63,16 +62,16 @@ abbrev pub lone_state : State → Timeline
 lone_state state = record { first = state; later = []; place = 0 }
 
 -- the bench of one state
-abbrev pub lone_bench : Schema → Identity → State → Bench
-lone_bench schema identity state = record { schema = schema; identity = identity; timeline = lone_state state }
+abbrev pub lone_bench : ℕ → Schema → Identity → State → Bench
+lone_bench depth schema identity state = record { schema = schema; identity = identity; depth = depth; timeline = lone_state state }
 
 -- an object file says what the object is called
 abbrev pub names_itself : Json → Bool
 names_itself v = is_some_object (value_at (codes "metadata" ∷ []) v) && is_identity (identity_of v)
 
-abbrev pub with_lone_state : Schema → Identity → Result State Fault → Result Bench Fault
-with_lone_state schema identity (Ok state) = Ok (lone_bench schema identity state)
-with_lone_state schema identity (Err f) = Err f
+abbrev pub with_lone_state : ℕ → Schema → Identity → Result State Fault → Result Bench Fault
+with_lone_state depth schema identity (Ok state) = Ok (lone_bench depth schema identity state)
+with_lone_state depth schema identity (Err f) = Err f
 
 abbrev pub with_table : Body → Result Table EntryFault → Result State Fault
 with_table body (Ok table) = Ok (record { body = body; table = table })
@@ -91,13 +90,17 @@ module _ (readings : Readings) where
   abbrev pub file_state : Kind → Json → Result State Fault
   file_state kind v = elim (body_or_fault kind (file_value v)) [ Ok body ↦ with_table body (given_table body v) | Err f ↦ Err f ]
 
-  -- the bench of an object file, or the file's first fault
-  abbrev pub bench_of : Schema → Json → Result Bench Fault
-  bench_of schema (object ms) =
+  -- the bench of an object file, of this depth, or the file's first fault
+  abbrev pub bench_with : ℕ → Schema → Json → Result Bench Fault
+  bench_with depth schema (object ms) =
       if not (names_itself (object ms)) then Err identity_fault
-      else with_lone_state schema (identity_of (object ms)) (file_state schema.kind (object ms))
-  bench_of schema (list vs) = Err (body_fault wrong_type [])
-  bench_of schema (scalar s) = Err (body_fault wrong_type [])
+      else with_lone_state depth schema (identity_of (object ms)) (file_state schema.kind (object ms))
+  bench_with depth schema (list vs) = Err (body_fault wrong_type [])
+  bench_with depth schema (scalar s) = Err (body_fault wrong_type [])
+
+  -- that of the greatest depth
+  abbrev pub bench_of : Schema → Json → Result Bench Fault
+  bench_of = bench_with most_past
 
 -- ---- commands on a bench
 
@@ -138,7 +141,7 @@ abbrev pub comparison : State → State → Changed
 comparison v w = record { added = added v.body w.body; modified = modified v.body w.body; removed = removed v.body w.body; managers = length w.table }
 
 abbrev pub accept : Bench → Text → Label → State → Answer
-accept bench word label s = (changed word (comparison (present bench.timeline) s), with_timeline bench (appended bench.timeline label s))
+accept bench word label s = (changed word (comparison (present bench.timeline) s), advanced bench label s)
 
 abbrev pub accept_or_refuse : Bench → Text → Label → Result State Refusal → Answer
 accept_or_refuse bench word label (Ok s) = accept bench word label s
@@ -153,10 +156,9 @@ has_part _ status = false
 -- with the body of the object, or refused before it
 abbrev pub with_body : Bench → Actor → Json → (Body → Answer) → Answer
 with_body bench who v go =
-    if nat_le most_past (past_len bench.timeline) then (fault history_full, bench)
-    else (if not (is_manager_name who.name) then (fault manager_name, bench)
+    if not (is_manager_name who.name) then (fault manager_name, bench)
     else (if not (has_part bench.schema.kind who.part) then (fault no_subresource, bench)
-    else (elim (command_body bench v) [ Ok body ↦ go body | Err f ↦ (fault f, bench) ])))
+    else (elim (command_body bench v) [ Ok body ↦ go body | Err f ↦ (fault f, bench) ]))
 
 abbrev pub owners_of : Table → Path → List ManagerKey
 owners_of table p = map (λ e. e.manager) (filter (λ e. has e.owned p) table)
@@ -174,9 +176,7 @@ answer bench (apply who force at v) = with_body bench who v (apply_answer bench 
 answer bench (update who at v) =
     with_body bench who v (λ body. accept_or_refuse bench (codes "update") (updated who at)
     (operations.update (present bench.timeline) (key_of updates who) body at))
-answer bench strip =
-    if nat_le most_past (past_len bench.timeline) then (fault history_full, bench)
-    else accept bench (codes "strip") stripped (operations.strip (present bench.timeline))
+answer bench strip = accept bench (codes "strip") stripped (operations.strip (present bench.timeline))
 answer bench undo =
     if past_len bench.timeline == 0 then (fault nothing_to_undo, bench)
     else (

@@ -43,4 +43,5 @@ pub record IsValidBench (readings : Readings) (bench : Bench) : Type 0 where
   pub steps : All (IsStep readings) bench.timeline.later
   pub order : KeepsOrders bench.timeline.first bench.timeline.later
   pub place : bench.timeline.place ≤ length bench.timeline.later
-  pub few : length bench.timeline.later ≤ most_past
+  pub deep : (1 ≤ bench.depth) × (bench.depth ≤ most_past)
+  pub few : length bench.timeline.later ≤ bench.depth

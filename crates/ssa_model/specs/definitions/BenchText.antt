@@ -13,12 +13,15 @@ pub data Format : Type 0 where
   records : Format
   -- the same, with the subresources of managers
   parts : Format
+  -- the same, with the depth of the bench
+  depths : Format
 
 -- the number that stands in a file's first line
 abbrev pub format_number : Format → ℕ
 format_number states = 1
 format_number records = 2
 format_number parts = 3
+format_number depths = 4
 
 abbrev pub line : Json → Text
 line v = compact v ++ 10 ∷ []

@@ -1,5 +1,5 @@
 -- The commands in effect: each state after the first is its command carried out on the state before it.
-use Rattle.std.specs.Prelude.{◌≡◌, ◌≤◌, List, [], ◌∷◌, Bool, true, false, if◌then◌else◌, length, take, Result, Ok, Err, ◌++◌, Option, Some, None, option_map}
+use Rattle.std.specs.Prelude.{◌≡◌, ◌≤◌, ℕ, ◌+◌, List, [], ◌∷◌, Bool, true, false, if◌then◌else◌, length, take, drop, nat_lt, Result, Ok, Err, ◌++◌, Option, Some, None, option_map}
 use Rattle.ssa_model.specs.definitions.Json.{Text}
 use Rattle.ssa_model.specs.definitions.Body.{Body}
 use Rattle.ssa_model.specs.definitions.Parts.{Actor}
@@ -58,9 +58,23 @@ AreSteps s [] (t ∷ ts) = ⊥
 AreSteps s (d ∷ ds) [] = ⊥
 AreSteps s (d ∷ ds) (t ∷ ts) = (t.label ≡ label_of d) × (carried_out s d ≡ Ok t.state) × AreSteps t.state ds ts
 
-pub record IsHistory (t : Timeline) : Type 0 where
-  pub deeds : List Deed
-  pub steps : AreSteps t.first deeds t.later
+-- The deeds of a history: those whose states are forgotten but for the last of them, which is the first state, and those of the states after it.
+pub record Deeds : Type 0 where
+  pub forgotten : List Deed
+  pub kept : List Deed
+
+abbrev pub no_deeds : Deeds
+no_deeds = record { forgotten = []; kept = [] }
+
+-- those that lead to a place
+abbrev pub deeds_to : ℕ → Deeds → List Deed
+deeds_to place ds = ds.forgotten ++ take place ds.kept
+
+-- Those that are forgotten lead from the origin to the first state, and each later state is its deed.
+pub record IsHistory (origin : State) (t : Timeline) : Type 0 where
+  pub deeds : Deeds
+  pub first : all_carried_out origin deeds.forgotten ≡ Ok t.first
+  pub steps : AreSteps t.first deeds.kept t.later
   pub place : t.place ≤ length t.later
 
 -- the command was accepted, and made a state
@@ -72,36 +86,41 @@ is_accepted (owned_by ks) = false
 is_accepted (logged past future) = false
 is_accepted (fault f) = false
 
--- the deeds of a bench whose states are made by these, after a command with this reply: an accepted one is put behind those up to the place
-abbrev pub deeds_with : Bench → List Deed → Command → Reply → List Deed
-deeds_with bench ds c reply =
-    if is_accepted reply then elim (deed_of bench c) [ None ↦ ds | Some d ↦ take bench.timeline.place ds ++ d ∷ [] ]
-    else ds
+-- a deed is put behind those up to the place; where there are more of them than the depth then, the first is forgotten
+abbrev pub with_deed : ℕ → ℕ → Deeds → Deed → Deeds
+with_deed depth place ds d =
+    let kept = take place ds.kept ++ d ∷ [] in
+    if nat_lt depth (place + 1) then record { forgotten = ds.forgotten ++ take 1 kept; kept = drop 1 kept }
+    else record { forgotten = ds.forgotten; kept = kept }
 
-abbrev pub deeds_after : Bench → List Deed → Command → List Deed
+-- the deeds of a bench whose states are made by these, after a command with this reply
+abbrev pub deeds_with : Bench → Deeds → Command → Reply → Deeds
+deeds_with bench ds c reply =
+    if is_accepted reply then elim (deed_of bench c) [ None ↦ ds | Some d ↦ with_deed bench.depth bench.timeline.place ds d ] else ds
+
+abbrev pub deeds_after : Bench → Deeds → Command → Deeds
 deeds_after bench ds c = deeds_with bench ds c (answer bench c).0
 
 -- the deeds after a list of commands
-abbrev pub deeds_of_run : Bench → List Deed → List Command → List Deed
+abbrev pub deeds_of_run : Bench → Deeds → List Command → Deeds
 deeds_of_run bench ds [] = ds
 deeds_of_run bench ds (c ∷ cs) = deeds_of_run (answer bench c).1 (deeds_after bench ds c) cs
 
--- The commands in effect after a list of commands on a bench of one state: those accepted and not undone, in order.
+-- The commands in effect after a list of commands on a bench of one state: those forgotten, and those accepted and not undone, in order.
 abbrev pub in_effect : Bench → List Command → List Deed
-in_effect bench cs = take (run bench cs).1.timeline.place (deeds_of_run bench [] cs)
+in_effect bench cs = deeds_to (run bench cs).1.timeline.place (deeds_of_run bench no_deeds cs)
 
--- An answer leaves a history, from the same first state, of the deeds after the command.
-pub record KeepsHistory (bench : Bench) (c : Command) (old : IsHistory bench.timeline) (given : Answer) : Type 0 where
-  pub first : given.1.timeline.first ≡ bench.timeline.first
-  pub history : IsHistory given.1.timeline
+-- An answer leaves a history, from the same origin, of the deeds after the command.
+pub record KeepsHistory (origin : State) (bench : Bench) (c : Command) (old : IsHistory origin bench.timeline) (given : Answer) : Type 0 where
+  pub history : IsHistory origin given.1.timeline
   pub deeds : history.deeds ≡ deeds_with bench old.deeds c given.0
 
 abbrev pub AnswersKeepHistory : Type 0
-AnswersKeepHistory = (bench : Bench) (c : Command) (old : IsHistory bench.timeline) → KeepsHistory bench c old (answer bench c)
+AnswersKeepHistory = (origin : State) (bench : Bench) (c : Command) (old : IsHistory origin bench.timeline) → KeepsHistory origin bench c old (answer bench c)
 
--- the state at the place is the deeds up to it, carried out on the first state
+-- the state at the place is the deeds up to it, carried out on the origin
 abbrev pub PresentIsCarriedOut : Type 0
-PresentIsCarriedOut = (t : Timeline) (h : IsHistory t) → all_carried_out t.first (take t.place h.deeds) ≡ Ok (present t)
+PresentIsCarriedOut = (origin : State) (t : Timeline) (h : IsHistory origin t) → all_carried_out origin (deeds_to t.place h.deeds) ≡ Ok (present t)
 
 abbrev pub HistoriesAreCarriedOut : Type 0
 HistoriesAreCarriedOut = AnswersKeepHistory × PresentIsCarriedOut

@@ -45,7 +45,6 @@ pub data Code : Type 0 where
   managed_fields_given : Code
   manager_name : Code
   no_subresource : Code
-  history_full : Code
   nothing_to_undo : Code
   nothing_to_redo : Code
   command_shape : Code
@@ -57,7 +56,7 @@ pub data Code : Type 0 where
 
 -- ---- the table
 
--- the number and the name of a fault
+-- The number and the name of a fault. 63 is the number of none and stays so: it was that of a history that is full, which forgets now.
 abbrev pub row_of : Code → ℕ × Text
 row_of not_json = (1, codes "NotJson")
 row_of null_value = (2, codes "NullValue")
@@ -87,7 +86,6 @@ row_of conflict = (50, codes "Conflict")
 row_of identity = (60, codes "Identity")
 row_of managed_fields_given = (61, codes "ManagedFieldsGiven")
 row_of manager_name = (62, codes "ManagerName")
-row_of history_full = (63, codes "HistoryFull")
 row_of nothing_to_undo = (64, codes "NothingToUndo")
 row_of nothing_to_redo = (65, codes "NothingToRedo")
 row_of command_shape = (66, codes "CommandShape")
@@ -150,7 +148,6 @@ fault_code answer.managed_fields_given = managed_fields_given
 fault_code (answer.entry_fault f) = entry_fault_code f
 fault_code answer.manager_name = manager_name
 fault_code answer.no_subresource = no_subresource
-fault_code answer.history_full = history_full
 fault_code answer.nothing_to_undo = nothing_to_undo
 fault_code answer.nothing_to_redo = nothing_to_redo
 fault_code (answer.refused r) = refusal_code r

@@ -1,7 +1,7 @@
 -- What a schema file and an object file say: a bench, or the first fault.
-use Rattle.std.specs.Prelude.{Result, Ok, Err, if◌then◌else◌, nat_lt, length}
+use Rattle.std.specs.Prelude.{ℕ, Result, Ok, Err, if◌then◌else◌, nat_lt, length}
 use Rattle.ssa_model.specs.definitions.Json.{Text, Json, compact}
-use Rattle.ssa_model.specs.definitions.Limits.{most_input_bytes}
+use Rattle.ssa_model.specs.definitions.Limits.{most_input_bytes, most_past}
 use Rattle.ssa_model.specs.definitions.Schema.{SchemaFault, read_schema, Schema}
 use Rattle.ssa_model.specs.definitions.History.{Bench}
 use Rattle.ssa_model.specs.definitions.Readings.{ReadFault, Readings}
@@ -52,6 +52,11 @@ module _ (readings : Readings) where
   abbrev pub schema_of_file : Text → Result Schema FileFault
   schema_of_file bytes = elim (value_of_file bytes) [ Ok v ↦ schema_of v | Err f ↦ Err f ]
 
-  -- the bench of an object file under the schema
+  -- the bench of an object file under the schema, of this depth
+  abbrev pub bench_with_file : ℕ → Schema → Text → Result Bench FileFault
+  bench_with_file depth schema bytes =
+      elim (value_of_file bytes) [ Ok v ↦ bench_or_fault (answers.bench_with readings depth schema v) | Err f ↦ Err f ]
+
+  -- that of the greatest depth
   abbrev pub bench_of_file : Schema → Text → Result Bench FileFault
-  bench_of_file schema bytes = elim (value_of_file bytes) [ Ok v ↦ bench_or_fault (answers.bench_of readings schema v) | Err f ↦ Err f ]
+  bench_of_file = bench_with_file most_past

@@ -1,5 +1,5 @@
 -- The history of a bench: all its states in a row, and a place among them.
-use Rattle.std.specs.Prelude.{ℕ, ◌+◌, ◌-◌, List, [], ◌∷◌, ◌++◌, Bool, ◌&&◌, length, take, nat_le}
+use Rattle.std.specs.Prelude.{ℕ, ◌+◌, ◌-◌, List, [], ◌∷◌, ◌++◌, Bool, ◌&&◌, if◌then◌else◌, length, take, nat_le, nat_lt}
 use Rattle.std.specs.List.{list_all}
 use Rattle.ssa_model.specs.definitions.Json.{Text}
 use Rattle.ssa_model.specs.definitions.Limits.{most_name_bytes}
@@ -29,6 +29,8 @@ pub record Timeline : Type 0 where
 pub record Bench : Type 0 where
   pub schema : Schema
   pub identity : Identity
+  -- how many commands it keeps to be undone
+  pub depth : ℕ
   pub timeline : Timeline
 
 abbrev pub last_state : State → List Step → State
@@ -51,9 +53,21 @@ appended t label s = record { first = t.first; later = take t.place t.later ++ r
 abbrev pub moved_to : Timeline → ℕ → Timeline
 moved_to t n = record { first = t.first; later = t.later; place = n }
 
+-- without the oldest state, where there is a later one
+abbrev pub forgotten : Timeline → Timeline
+forgotten t = elim t.later [ [] ↦ t | s ∷ ss ↦ record { first = s.state; later = ss; place = t.place - 1 } ]
+
+-- without the oldest state where more than so many stand before the place
+abbrev pub held : ℕ → Timeline → Timeline
+held depth t = if nat_lt depth t.place then forgotten t else t
+
 -- the bench with another timeline
 abbrev pub with_timeline : Bench → Timeline → Bench
-with_timeline bench t = record { schema = bench.schema; identity = bench.identity; timeline = t }
+with_timeline bench t = record { schema = bench.schema; identity = bench.identity; depth = bench.depth; timeline = t }
+
+-- the bench with a new state, and without the oldest one where its past is longer than its depth
+abbrev pub advanced : Bench → Label → State → Bench
+advanced bench label s = with_timeline bench (held bench.depth (appended bench.timeline label s))
 
 abbrev pub is_name_byte : ℕ → Bool
 is_name_byte b = nat_le 32 b && nat_le b 126

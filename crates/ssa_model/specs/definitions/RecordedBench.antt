@@ -2,24 +2,31 @@
 -- the future. One compact value a line, each line ended by a line feed.
 use Rattle.std.specs.Prelude.{ℕ, List, [], ◌∷◌, ◌++◌, take, drop, flat_map, codes}
 use Rattle.std.specs.List.{All}
-use Rattle.ssa_model.specs.definitions.Json.{Text, Json, object, no_members, member}
+use Rattle.ssa_model.specs.definitions.Json.{Text, Json, object, Members, no_members, member}
 use Rattle.ssa_model.specs.definitions.Readings.{Readings}
 use Rattle.ssa_model.specs.definitions.Entries.{version_in}
 use Rattle.ssa_model.specs.definitions.Operations.{State}
 use Rattle.ssa_model.specs.definitions.History.{Label, Step, Timeline, Bench, present, past_len, future_len}
 use Rattle.ssa_model.specs.definitions.Replies.{number_json, label_json}
-use Rattle.ssa_model.specs.definitions.BenchText.{Format, format_number, line, whole_object}
+use Rattle.ssa_model.specs.definitions.BenchText.{Format, states, records, parts, depths, format_number, line, whole_object}
 use Rattle.ssa_model.specs.definitions.Record.{record_of}
 use Rattle.ssa_model.specs.definitions.RecordText.{record_json}
 use Rattle.ssa_model.specs.definitions.RecordReading.{HasReadPaths}
 
 -- ---- the lines
 
--- the format, and how many commands can be redone and undone
-abbrev pub record_head : Format → ℕ → ℕ → Json
-record_head f past future =
-    object (member (codes "format") (number_json (format_number f))
-    (member (codes "future") (number_json future) (member (codes "past") (number_json past) no_members)))
+-- the depth stands in the head of the format that tells of it
+abbrev pub depth_members : Format → ℕ → Members → Members
+depth_members states depth ms = ms
+depth_members records depth ms = ms
+depth_members parts depth ms = ms
+depth_members depths depth ms = member (codes "depth") (number_json depth) ms
+
+-- the depth, the format, and how many commands can be redone and undone
+abbrev pub record_head : Format → ℕ → ℕ → ℕ → Json
+record_head f depth past future =
+    object (depth_members f depth (member (codes "format") (number_json (format_number f))
+    (member (codes "future") (number_json future) (member (codes "past") (number_json past) no_members))))
 
 -- a command, and the record of the move from one state to another across it
 abbrev pub record_line : Bench → Label → State → State → Json
@@ -51,7 +58,7 @@ recorded_lines bench =
 
 -- with the head of a format before them
 abbrev pub recorded_values : Format → Bench → List Json
-recorded_values f bench = record_head f (past_len bench.timeline) (future_len bench.timeline) ∷ recorded_lines bench
+recorded_values f bench = record_head f bench.depth (past_len bench.timeline) (future_len bench.timeline) ∷ recorded_lines bench
 
 abbrev pub recorded_text : Format → Bench → Text
 recorded_text f bench = flat_map line (recorded_values f bench)

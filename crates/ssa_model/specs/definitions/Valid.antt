@@ -1,5 +1,5 @@
 -- Valid tables, states and histories.
-use Rattle.std.specs.Prelude.{◌<◌, ◌≡◌, ◌≤◌, [], ◌∷◌, Bool, true, false, not, ◌&&◌, List, map, filter, length, Some, codes}
+use Rattle.std.specs.Prelude.{◌<◌, ℕ, ◌≡◌, ◌≤◌, [], ◌∷◌, Bool, true, false, not, ◌&&◌, List, map, filter, length, Some, codes}
 use Rattle.ssa_model.specs.definitions.Limits.{most_places, most_managers, most_past}
 use Rattle.ssa_model.specs.definitions.Path.{Path, field}
 use Rattle.ssa_model.specs.definitions.PathMap.{PathSet, get, has, is_empty, size}
@@ -8,7 +8,7 @@ use Rattle.ssa_model.specs.definitions.Body.{Body, record_branch, points, is_own
 use Rattle.ssa_model.specs.definitions.Table.{ManagerKey, Entry, Table, is_in_table}
 use Rattle.ssa_model.specs.definitions.Fitting.{IsBodyOf}
 use Rattle.ssa_model.specs.definitions.Operations.{State}
-use Rattle.ssa_model.specs.definitions.History.{Label, applied, updated, stripped, Step, Timeline, is_manager_name, past_len, present}
+use Rattle.ssa_model.specs.definitions.History.{Label, applied, updated, stripped, Step, Timeline, is_manager_name, present}
 use Rattle.std.specs.List.{All}
 
 abbrev pub has_distinct_keys : Table → Bool
@@ -91,15 +91,14 @@ abbrev pub MakesNamed : Step → Type 0
 MakesNamed s = is_named s.label ≡ true
 
 -- A history as commands make it: its states are valid, neighbours keep the order of the managers that they share, names are
--- manager's names, and there are no more commands than can be undone.
-pub record IsValidHistory (kind : Kind) (t : Timeline) : Type 0 where
+-- manager's names, and there are no more commands than the depth.
+pub record IsValidHistory (kind : Kind) (depth : ℕ) (t : Timeline) : Type 0 where
   pub states : AllValid kind t
   pub order : KeepsOrders t.first t.later
   pub names : All MakesNamed t.later
-  pub few : length t.later ≤ most_past
+  pub few : length t.later ≤ depth
 
 -- what an accepted command adds to a history, beside a valid state
 pub record IsNextStep (t : Timeline) (label : Label) (s : State) : Type 0 where
   pub order : KeepsOrder (present t).table s.table
   pub named : is_named label ≡ true
-  pub few : past_len t < most_past

@@ -1,6 +1,7 @@
 -- Worked examples: what a first line says, and files in each format, with their faults.
 use Rattle.std.specs.Prelude.{◌≡◌, ℕ, List, [], ◌∷◌, map, flat_map, ◌==◌, Bool, true, false, Some, None, is_some, codes}
 use Rattle.std.specs.List.{list_any, list_all}
+use Rattle.ssa_model.specs.definitions.Limits.{most_past}
 use Rattle.ssa_model.specs.definitions.Json.{Json, object, no_members, member, same_text}
 use Rattle.ssa_model.specs.definitions.Parts.{status}
 use Rattle.ssa_model.specs.definitions.Path.{field}
@@ -9,7 +10,7 @@ use Rattle.ssa_model.specs.definitions.Table.{Entry}
 use Rattle.ssa_model.specs.definitions.Operations.{State}
 use Rattle.ssa_model.specs.definitions.History.{Label, applied}
 use Rattle.ssa_model.specs.definitions.Replies.{number_json}
-use Rattle.ssa_model.specs.definitions.BenchText.{Format, states, records, parts, format_number, line, head_of, whole_object, first_json, step_json}
+use Rattle.ssa_model.specs.definitions.BenchText.{Format, states, records, parts, depths, format_number, line, head_of, whole_object, first_json, step_json}
 use Rattle.ssa_model.specs.definitions.RecordedBench.{record_head, record_line}
 use Rattle.ssa_model.specs.definitions.Formats.{file_values, file_text, IsFile}
 use Rattle.ssa_model.specs.laws.RecordedBenches.{move_fault_number}
@@ -25,8 +26,8 @@ use Rattle.ssa_model.specs.examples.RecordedRows.{moved_value, one_gone}
 abbrev pub states_head : ℕ → ℕ → FileHead
 states_head place count = of_states (record { place = place; states = count })
 
-abbrev pub records_head : Format → ℕ → ℕ → FileHead
-records_head f past future = of_records (record { format = f; past = past; future = future })
+abbrev pub records_head : Format → ℕ → ℕ → ℕ → FileHead
+records_head f depth past future = of_records (record { format = f; depth = depth; past = past; future = future })
 
 -- a head with the counts of records, under this number
 abbrev pub numbered_head : ℕ → Json
@@ -38,17 +39,22 @@ abbrev pub HeadsAreTold : Type 0
 HeadsAreTold =
     (file_head (head_of 0 1) ≡ Some (states_head 0 1))
     × (file_head (head_of 1000 1001) ≡ Some (states_head 1000 1001))
-    × (file_head (record_head records 0 0) ≡ Some (records_head records 0 0))
-    × (file_head (record_head records 1 999) ≡ Some (records_head records 1 999))
-    × (file_head (record_head parts 0 0) ≡ Some (records_head parts 0 0))
-    × (file_head (record_head parts 999 1) ≡ Some (records_head parts 999 1))
+    × (file_head (record_head records most_past 0 0) ≡ Some (records_head records most_past 0 0))
+    × (file_head (record_head records most_past 1 999) ≡ Some (records_head records most_past 1 999))
+    × (file_head (record_head parts most_past 0 0) ≡ Some (records_head parts most_past 0 0))
+    × (file_head (record_head parts most_past 999 1) ≡ Some (records_head parts most_past 999 1))
+    × (file_head (record_head depths 1 0 1) ≡ Some (records_head depths 1 0 1))
+    × (file_head (record_head depths most_past 999 1) ≡ Some (records_head depths most_past 999 1))
+    × (file_head (record_head depths 1 1 1) ≡ None)
+    × (file_head (record_head depths 0 0 0) ≡ None)
+    × (file_head (record_head depths 1001 0 0) ≡ None)
     × (file_head (head_of 2 2) ≡ None)
     × (file_head (head_of 0 0) ≡ None)
     × (file_head (head_of 0 1002) ≡ None)
-    × (file_head (record_head records 1 1000) ≡ None)
-    × (file_head (record_head parts 1 1000) ≡ None)
-    × (file_head (numbered_head (format_number records)) ≡ Some (records_head records 1 0))
-    × (file_head (numbered_head (format_number parts)) ≡ Some (records_head parts 1 0))
+    × (file_head (record_head records most_past 1 1000) ≡ None)
+    × (file_head (record_head parts most_past 1 1000) ≡ None)
+    × (file_head (numbered_head (format_number records)) ≡ Some (records_head records most_past 1 0))
+    × (file_head (numbered_head (format_number parts)) ≡ Some (records_head parts most_past 1 0))
     × (file_head (numbered_head (format_number states)) ≡ None)
     × (file_head (numbered_head 4) ≡ None)
     × (file_head (numbered_head 0) ≡ None)
@@ -62,7 +68,7 @@ is_file_taken f =
     elim (file_bench_in (readings_of (file_values f filed)) (file_text f filed)) [ Some taken ↦ same_text (file_text f taken) (file_text f filed) | None ↦ false ]
 
 abbrev pub FilesOfAllAreTaken : Type 0
-FilesOfAllAreTaken = (is_file_taken states ≡ true) × (is_file_taken records ≡ true) × (is_file_taken parts ≡ true)
+FilesOfAllAreTaken = (is_file_taken states ≡ true) × (is_file_taken records ≡ true) × (is_file_taken parts ≡ true) × (is_file_taken depths ≡ true)
 
 -- what is asked of a bench file is met in each format
 abbrev pub FilesAreMet : Type 0
@@ -99,8 +105,8 @@ misfit = moved_value (record_with nothing nothing (one_gone (codes "m2")) nothin
 abbrev pub MixedFilesAreRefused : Type 0
 MixedFilesAreRefused =
     (are_lines_taken (with_lines (head_of 0 2) first_state later_states) ≡ true)
-    × (are_lines_taken (with_lines (record_head records 0 1) present_object onward) ≡ true)
-    × (are_lines_taken (with_lines (record_head records 0 1) first_state later_states) ≡ false)
+    × (are_lines_taken (with_lines (record_head records most_past 0 1) present_object onward) ≡ true)
+    × (are_lines_taken (with_lines (record_head records most_past 0 1) first_state later_states) ≡ false)
     × (are_lines_taken (with_lines (head_of 0 2) present_object onward) ≡ false)
     × (are_lines_taken (with_lines (head_of 1 2) first_state later_states) ≡ true)
     × (are_lines_taken (with_lines (head_of 0 3) first_state later_states) ≡ false)
@@ -110,7 +116,7 @@ MixedFilesAreRefused =
 -- states with the lines of records
 abbrev pub FaultsAreTold : Type 0
 FaultsAreTold =
-    (lines_number (with_lines (record_head records 0 1) present_object misfit) ≡ 71)
+    (lines_number (with_lines (record_head records most_past 0 1) present_object misfit) ≡ 71)
     × (lines_number (with_lines (head_of 0 2) present_object misfit) ≡ 70)
     × (lines_number (with_lines (numbered_head 4) present_object misfit) ≡ 70)
     × (lines_number (with_lines (head_of 0 3) first_state later_states) ≡ 70)
@@ -148,11 +154,11 @@ shown_state w = whole_object filed w
 -- the command alone has a subresource; a manager that is here has one; one that is gone; one that changes; an entry of the present object
 abbrev pub status_files : Format → List (List Json)
 status_files f =
-    with_lines (record_head f 0 1) present_object (line_to status_label applied_step.state)
-    ∷ with_lines (record_head f 0 1) present_object (line_to applied_step.label status_state)
-    ∷ with_lines (record_head f 1 0) (shown_state status_state) (line_from applied_step.label status_state)
-    ∷ with_lines (record_head f 1 0) (shown_state status_state) (record_line filed applied_step.label status_state (owning_spec status_state) ∷ [])
-    ∷ with_lines (record_head f 0 0) (shown_state status_state) []
+    with_lines (record_head f most_past 0 1) present_object (line_to status_label applied_step.state)
+    ∷ with_lines (record_head f most_past 0 1) present_object (line_to applied_step.label status_state)
+    ∷ with_lines (record_head f most_past 1 0) (shown_state status_state) (line_from applied_step.label status_state)
+    ∷ with_lines (record_head f most_past 1 0) (shown_state status_state) (record_line filed applied_step.label status_state (owning_spec status_state) ∷ [])
+    ∷ with_lines (record_head f most_past 0 0) (shown_state status_state) []
     ∷ []
 
 -- a record that doesn't fit and tells of a subresource: one is gone who is not there
@@ -166,9 +172,10 @@ status_misfit =
 abbrev pub SubresourcesAreTold : Type 0
 SubresourcesAreTold =
     (list_all are_lines_taken (status_files parts) ≡ true)
+    × (list_all are_lines_taken (status_files depths) ≡ true)
     × (list_any are_lines_taken (status_files records) ≡ false)
     × (list_all (λ vs. lines_number vs == 70) (status_files records) ≡ true)
-    × (lines_number (with_lines (record_head parts 0 1) present_object status_misfit) ≡ 71)
-    × (lines_number (with_lines (record_head records 0 1) present_object status_misfit) ≡ 70)
+    × (lines_number (with_lines (record_head parts most_past 0 1) present_object status_misfit) ≡ 71)
+    × (lines_number (with_lines (record_head records most_past 0 1) present_object status_misfit) ≡ 70)
     × (are_lines_taken (with_lines (head_of 0 2) first_state (step_json filed (record { label = status_label; state = applied_step.state }) ∷ [])) ≡ false)
     × (are_lines_taken (with_lines (head_of 0 2) first_state (step_json filed (record { label = applied_step.label; state = status_state }) ∷ [])) ≡ false)

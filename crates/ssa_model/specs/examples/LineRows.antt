@@ -1,8 +1,9 @@
 -- Worked examples: the answers to lines of a session, as the texts that are written.
 use Rattle.std.specs.Prelude.{◌≡◌, ℕ, zero, suc, List, [], ◌∷◌, Result, Ok, Err, codes, false}
 use Rattle.ssa_model.specs.definitions.Json.{Text, Json, list, object, scalar, truth, no_items, item, Members, no_members, member, same_text}
-use Rattle.ssa_model.specs.definitions.History.{Bench, applied, present, with_timeline}
-use Rattle.ssa_model.specs.definitions.Answers.{run}
+use Rattle.ssa_model.specs.definitions.History.{Bench, applied, past_len, present, with_timeline}
+use Rattle.ssa_model.specs.definitions.Answers as answers
+use Rattle.ssa_model.specs.definitions.Answers.{strip, answer, run}
 use Rattle.ssa_model.specs.definitions.Readings.{ReadFault, Readings, not_json, null_value, number_outside}
 use Rattle.ssa_model.specs.definitions.Session.{line_answer}
 use Rattle.ssa_model.specs.examples.Sample.{main_by, string_json, number_json}
@@ -87,9 +88,8 @@ with_past n =
 abbrev pub RefusedCommandsAreTold : Type 0
 RefusedCommandsAreTold =
     (replied (applies_at (codes "t1") (codes "") bare_object) ≡ codes "{\"fault\":62,\"name\":\"ManagerName\"}")
-    × (written_for (with_past 1000) (Ok (plain (codes "strip"))) ≡ codes "{\"fault\":63,\"name\":\"HistoryFull\"}")
-    × (written_for (with_past 1000) (Ok (applied_by_m1 bare_object)) ≡ codes "{\"fault\":63,\"name\":\"HistoryFull\"}")
-    × (written_for (with_past 999) (Ok (plain (codes "strip"))) ≡ codes "{\"added\":[],\"done\":\"strip\",\"managers\":0,\"modified\":[],\"removed\":[]}")
+    × (written_for (with_past 1000) (Ok (plain (codes "strip"))) ≡ codes "{\"added\":[],\"done\":\"strip\",\"managers\":0,\"modified\":[],\"removed\":[]}")
+    × (past_len (answer (with_past 1000) strip).1.timeline ≡ 1000) × (past_len (answer (with_past 999) strip).1.timeline ≡ 1000)
     × (replied (plain (codes "undo")) ≡ codes "{\"fault\":64,\"name\":\"NothingToUndo\"}")
     × (replied (plain (codes "redo")) ≡ codes "{\"fault\":65,\"name\":\"NothingToRedo\"}")
 

@@ -15,6 +15,7 @@ abbrev pub status_bench : Bench
 status_bench = record {
   schema = status_schema;
   identity = identity_of (sample_object no_members no_members);
+  depth = new_bench.depth;
   timeline = record { first = record { body = flat status_kind (object no_members); table = [] }; later = []; place = 0 };
 }
 

@@ -1,12 +1,13 @@
 -- Worked examples: the text of a bench file of records after an apply and after its undo, what is taken from it, and damaged lines with their faults.
 use Rattle.std.specs.Prelude.{◌≡◌, ℕ, List, [], ◌∷◌, ◌++◌, flat_map, Bool, true, false, Option, Some, None, option_map, is_some, Ok, if◌then◌else◌, codes}
 use Rattle.std.specs.List.{list_any}
+use Rattle.ssa_model.specs.definitions.Limits.{most_past}
 use Rattle.ssa_model.specs.definitions.Json.{Text, Json, object, no_members, member, compact, same_text}
 use Rattle.ssa_model.specs.definitions.Readings.{Readings}
 use Rattle.ssa_model.specs.definitions.Replies.{label_json}
 use Rattle.ssa_model.specs.definitions.History.{Bench, present}
 use Rattle.ssa_model.specs.definitions.Answers.{undo}
-use Rattle.ssa_model.specs.definitions.BenchText.{Format, records, parts, line, whole_object}
+use Rattle.ssa_model.specs.definitions.BenchText.{Format, records, parts, depths, line, whole_object}
 use Rattle.ssa_model.specs.definitions.BenchFile.{IsLabel, IsValidBench}
 use Rattle.ssa_model.specs.definitions.MemberNames.{has_distinct_names, has_rising_names}
 use Rattle.ssa_model.specs.definitions.Operations.{State}
@@ -63,9 +64,9 @@ applied_bench = after (one_apply ∷ [])
 -- after an apply, and after its undo
 abbrev pub RecordedFilesAreWritten : Type 0
 RecordedFilesAreWritten =
-    (recorded_text parts applied_bench ≡ codes "{\"format\":3,\"future\":0,\"past\":1}" ++ feed ++ sample_text ++ feed ++ applied_object ++ feed ++ undo_line ++ feed)
-    × (recorded_text parts (after (one_apply ∷ undo ∷ []))
-    ≡ codes "{\"format\":3,\"future\":1,\"past\":0}" ++ feed ++ sample_text ++ feed
+    (recorded_text depths applied_bench ≡ codes "{\"depth\":1000,\"format\":4,\"future\":0,\"past\":1}" ++ feed ++ sample_text ++ feed ++ applied_object ++ feed ++ undo_line ++ feed)
+    × (recorded_text depths (after (one_apply ∷ undo ∷ []))
+    ≡ codes "{\"depth\":1000,\"format\":4,\"future\":1,\"past\":0}" ++ feed ++ sample_text ++ feed
     ++ codes "{\"apiVersion\":\"example.com/v1\",\"kind\":\"App\",\"metadata\":{\"name\":\"web\"}}" ++ feed ++ with_command redo_record ++ feed)
 
 -- ---- what is taken
@@ -78,12 +79,12 @@ is_taken_again f bench =
 -- after an apply and after its undo, in both formats of records
 abbrev pub RecordedValuesAreTaken : Type 0
 RecordedValuesAreTaken =
-    (is_taken_again parts applied_bench ≡ true) × (is_taken_again parts (after (one_apply ∷ undo ∷ [])) ≡ true)
+    (is_taken_again depths applied_bench ≡ true) × (is_taken_again parts applied_bench ≡ true) × (is_taken_again parts (after (one_apply ∷ undo ∷ [])) ≡ true)
     × (is_taken_again records applied_bench ≡ true) × (is_taken_again records (after (one_apply ∷ undo ∷ [])) ≡ true)
 
 -- what is asked of a bench so that the values of its file of records are shallow is met
 abbrev pub ShallowFileIsMet : Type 0
-ShallowFileIsMet = IsValidBench (readings_of (recorded_values parts filed)) filed × (has_distinct_names filed.schema.source ≡ true)
+ShallowFileIsMet = IsValidBench (readings_of (recorded_values depths filed)) filed × (has_distinct_names filed.schema.source ≡ true)
 
 -- ---- damaged lines
 
@@ -97,7 +98,7 @@ one_gone name = list_of (list_of (string_json name ∷ string_json (codes "Apply
 -- meet what the laws of one line ask
 abbrev pub RecordedMovesAreMet : Type 0
 RecordedMovesAreMet =
-    let readings = readings_of (recorded_values parts filed) in
+    let readings = readings_of (recorded_values depths filed) in
     let v = filed.timeline.first in
     let w = applied_step.state in
     let own = record_line filed applied_step.label v w in
@@ -119,7 +120,7 @@ abbrev pub text_number_in : Format → Text → Json → Option ℕ
 text_number_in f t j = option_map move_fault_number (line_fault (reads_alone t j) f applied_bench (present applied_bench.timeline) t)
 
 abbrev pub text_number : Text → Json → Option ℕ
-text_number = text_number_in parts
+text_number = text_number_in depths
 
 abbrev pub record_number : Json → Option ℕ
 record_number d = text_number (compact (moved_value d)) (moved_value d)
@@ -177,7 +178,7 @@ file_number head t j =
     move_fault_number (recorded_fault readings (flat_map line opening ++ t ++ feed))
 
 abbrev pub record_file_number : ℕ → Json → ℕ
-record_file_number past d = file_number (record_head parts past 0) (compact (moved_value d)) (moved_value d)
+record_file_number past d = file_number (record_head depths most_past past 0) (compact (moved_value d)) (moved_value d)
 
 -- a path that isn't there; a manager that would own an absent path; an element with a blank; a head that tells of a command more,
 -- whose line is missing; members in another order; a head that tells of too many commands, in front of a record that doesn't fit
@@ -187,7 +188,7 @@ DamagedFilesAreTold =
     × (record_file_number 1 (record_with nothing (list_of (spec_path ∷ [])) nothing nothing nothing) ≡ 71)
     × (record_file_number 1 (record_with nothing (list_of (path_of_texts (codes "v: 1" ∷ []) ∷ [])) m1_gone nothing nothing) ≡ 70)
     × (record_file_number 2 undo_value ≡ 70)
-    × (file_number (record_head parts 1 0) (with_command other_order) (moved_value undo_value) ≡ 70)
+    × (file_number (record_head depths most_past 1 0) (with_command other_order) (moved_value undo_value) ≡ 70)
     × (record_file_number 1001 (record_with nothing (list_of (spec_path ∷ [])) nothing nothing nothing) ≡ 70)
 
 abbrev pub is_text_taken : List Json → Text → Bool
@@ -196,8 +197,8 @@ is_text_taken vs t = is_some (recorded_bench_in (readings_of vs) t)
 -- the file after the apply is taken; one whose head tells of a command more, and one that goes on behind its last line, are not
 abbrev pub OtherFilesAreRefused : Type 0
 OtherFilesAreRefused =
-    let vs = recorded_values parts applied_bench in
-    let others = record_head parts 2 0 ∷ sample_schema.source ∷ whole_object applied_bench (present applied_bench.timeline) ∷ moved_value undo_value ∷ [] in
-    (is_text_taken vs (recorded_text parts applied_bench) ≡ true)
+    let vs = recorded_values depths applied_bench in
+    let others = record_head depths most_past 2 0 ∷ sample_schema.source ∷ whole_object applied_bench (present applied_bench.timeline) ∷ moved_value undo_value ∷ [] in
+    (is_text_taken vs (recorded_text depths applied_bench) ≡ true)
     × (is_text_taken others (flat_map line others) ≡ false)
-    × (is_text_taken vs (recorded_text parts applied_bench ++ codes "{}") ≡ false)
+    × (is_text_taken vs (recorded_text depths applied_bench ++ codes "{}") ≡ false)

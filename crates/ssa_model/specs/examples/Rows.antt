@@ -1,6 +1,7 @@
 -- Worked examples: lists of commands on a new bench with the sample schema, and their replies.
 use Rattle.std.specs.Prelude.{◌≡◌, ℕ, List, [], ◌∷◌, ◌++◌, codes, true, false, map, Option, Some, Result}
 use Rattle.ssa_model.specs.definitions.Json.{Text, Json, list, object, Items, no_items, item, Members, no_members, member}
+use Rattle.ssa_model.specs.definitions.Limits.{most_past}
 use Rattle.ssa_model.specs.definitions.Path.{field, element_text}
 use Rattle.ssa_model.specs.definitions.PathMap.{PathSet, paths, get}
 use Rattle.ssa_model.specs.definitions.Body.{Content, list_branch, flat}
@@ -38,6 +39,7 @@ abbrev pub new_bench : Bench
 new_bench = record {
   schema = sample_schema;
   identity = identity_of bare_object;
+  depth = most_past;
   timeline = record { first = record { body = flat sample_kind (object no_members); table = [] }; later = []; place = 0 };
 }
 

@@ -54,6 +54,7 @@ abbrev pub twice_typed : Bench
 twice_typed = record {
   schema = record { source = object (with_last (codes "type") (nested most_depth) (members_of_value filed.schema.source)); kind = filed.schema.kind };
   identity = filed.identity;
+  depth = filed.depth;
   timeline = filed.timeline;
 }
 

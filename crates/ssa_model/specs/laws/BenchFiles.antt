@@ -138,7 +138,7 @@ bench_in readings t = if nat_le (length t) most_bench_bytes then option_and_then
 abbrev pub BenchFilesAreTaken : Type 0
 BenchFilesAreTaken =
     (readings : Readings) (bench : Bench)
-    → IsValidBench readings bench → CanTell states bench.timeline → length (bench_text bench) ≤ most_bench_bytes
+    → IsValidBench readings bench → CanTell states bench → length (bench_text bench) ≤ most_bench_bytes
     → All (IsSpelled readings) (bench_values bench)
     → bench_in readings (bench_text bench) ≡ Some bench
 

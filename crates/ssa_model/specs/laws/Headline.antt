@@ -1,15 +1,15 @@
 -- The headline, law by law: what stands after any list of commands, and what undo, redo and refusals leave.
-use Rattle.std.specs.Prelude.{◌≡◌, ◌<◌, ◌≤◌, List, [], ◌++◌, Bool, false, true, length, take, Ok, codes}
+use Rattle.std.specs.Prelude.{◌≡◌, ◌<◌, ◌≤◌, ℕ, ◌+◌, List, [], ◌++◌, Bool, false, true, if◌then◌else◌, length, take, drop, nat_lt, Ok, codes}
 use Rattle.ssa_model.specs.definitions.Json.{Text, Json, same_text}
 use Rattle.ssa_model.specs.definitions.Body.{Body, modified}
 use Rattle.ssa_model.specs.definitions.Parts.{Actor, part_of}
 use Rattle.ssa_model.specs.definitions.Table.{applies, key_of}
-use Rattle.ssa_model.specs.definitions.Operations.{Clash, clashes, conflict, pruned}
-use Rattle.ssa_model.specs.definitions.History.{Bench, Timeline, past_len, future_len, present}
+use Rattle.ssa_model.specs.definitions.Operations.{State, Clash, clashes, conflict, pruned}
+use Rattle.ssa_model.specs.definitions.History.{Bench, Step, Timeline, past_len, future_len, forgotten, last_state, present}
 use Rattle.ssa_model.specs.definitions.Answers.{Answer, Command, Fault, apply, undo, redo, fault, moved, refused, answer, command_body, run}
 use Rattle.ssa_model.specs.definitions.Readings.{Readings}
 use Rattle.ssa_model.specs.definitions.Session.{line_answer, out_of_memory_text, too_long_text}
-use Rattle.ssa_model.specs.definitions.Effect.{Deed, IsHistory, all_carried_out, deeds_of_run, in_effect, is_accepted}
+use Rattle.ssa_model.specs.definitions.Effect.{AreSteps, Deed, Deeds, IsHistory, all_carried_out, deeds_of_run, deeds_to, in_effect, is_accepted}
 
 -- the timeline has one state, as that of a bench made from an object file
 abbrev pub IsAlone : Timeline → Type 0
@@ -25,29 +25,52 @@ RunIsInEffect = (bench : Bench) (cs : List Command) → IsAlone bench.timeline
     → all_carried_out bench.timeline.first (in_effect bench cs) ≡ Ok (present (run bench cs).1.timeline)
 
 -- After a list of commands on a bench whose states are made by deeds, so are the states: by these and the accepted commands'.
-pub record KeepsRun (bench : Bench) (before : List Deed) (cs : List Command) : Type 0 where
-  pub first : (run bench cs).1.timeline.first ≡ bench.timeline.first
-  pub history : IsHistory (run bench cs).1.timeline
+pub record KeepsRun (origin : State) (bench : Bench) (before : Deeds) (cs : List Command) : Type 0 where
+  pub history : IsHistory origin (run bench cs).1.timeline
   pub deeds : history.deeds ≡ deeds_of_run bench before cs
-  pub state : all_carried_out bench.timeline.first (take (run bench cs).1.timeline.place history.deeds) ≡ Ok (present (run bench cs).1.timeline)
+  pub state : all_carried_out origin (deeds_to (run bench cs).1.timeline.place history.deeds) ≡ Ok (present (run bench cs).1.timeline)
 
 abbrev pub RunKeepsHistory : Type 0
-RunKeepsHistory = (bench : Bench) (cs : List Command) (before : IsHistory bench.timeline) → KeepsRun bench before.deeds cs
+RunKeepsHistory = (origin : State) (bench : Bench) (cs : List Command) (before : IsHistory origin bench.timeline) → KeepsRun origin bench before.deeds cs
 
--- the bench is as it was up to its place, and one command can be done again
+-- What stands after commands on a history, whatever made the states that were there: those of them up to a place, and behind these others,
+-- each its deed carried out on the one before it. Of all of these the oldest are forgotten.
+pub record GoesOn (old new : Timeline) : Type 0 where
+  pub kept : ℕ
+  pub deeds : List Deed
+  pub made : List Step
+  pub steps : AreSteps (last_state old.first (take kept old.later)) deeds made
+  pub gone : ℕ
+  pub few : gone ≤ length (take kept old.later ++ made)
+  pub first : new.first ≡ last_state old.first (take gone (take kept old.later ++ made))
+  pub later : new.later ≡ drop gone (take kept old.later ++ made)
+  pub place : new.place ≤ length new.later
+
+-- after a list of commands on any bench its history goes on so
+abbrev pub RunGoesOn : Type 0
+RunGoesOn = (bench : Bench) (cs : List Command) → bench.timeline.place ≤ length bench.timeline.later → GoesOn bench.timeline (run bench cs).1.timeline
+
+-- the states up to the place
+abbrev pub up_to_place : Timeline → Timeline
+up_to_place t = record { first = t.first; later = take t.place t.later; place = t.place }
+
+-- the history up to the place, without the oldest state where the past is as long as the depth
+abbrev pub with_room : ℕ → Timeline → Timeline
+with_room depth t = if nat_lt depth (t.place + 1) then forgotten (up_to_place t) else up_to_place t
+
+-- the bench is as it was up to its place, but for the oldest state where the past was full, and one command can be done again
 pub record IsRestored (bench : Bench) (given : Answer) : Type 0 where
-  pub reply : given.0 ≡ moved (codes "undo") (past_len bench.timeline) 1
+  pub reply : given.0 ≡ moved (codes "undo") (past_len given.1.timeline) 1
   pub schema : given.1.schema ≡ bench.schema
   pub identity : given.1.identity ≡ bench.identity
-  pub first : given.1.timeline.first ≡ bench.timeline.first
-  pub past : take bench.timeline.place given.1.timeline.later ≡ take bench.timeline.place bench.timeline.later
-  pub place : given.1.timeline.place ≡ bench.timeline.place
+  pub depth : given.1.depth ≡ bench.depth
+  pub past : up_to_place given.1.timeline ≡ with_room bench.depth bench.timeline
   pub state : present given.1.timeline ≡ present bench.timeline
   pub future : future_len given.1.timeline ≡ 1
 
--- undo after an accepted command restores everything; that command alone can then be done again
+-- undo after an accepted command restores everything but what is forgotten; that command alone can then be done again
 abbrev pub UndoRestoresAll : Type 0
-UndoRestoresAll = (bench : Bench) (c : Command) → bench.timeline.place ≤ length bench.timeline.later → is_accepted (answer bench c).0 ≡ true
+UndoRestoresAll = (bench : Bench) (c : Command) → 0 < bench.depth → bench.timeline.place ≤ length bench.timeline.later → is_accepted (answer bench c).0 ≡ true
     → IsRestored bench (answer (answer bench c).1 undo)
 
 -- redo after undo restores the whole timeline

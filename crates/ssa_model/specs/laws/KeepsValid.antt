@@ -1,6 +1,6 @@
 -- The operations keep what is valid: bodies fit their kind, tables are of their body, managers stay in order.
 use Rattle.ssa_model.specs.definitions.Valid.{IsManagers, IsTable, IsRooted, IsValidState, has_distinct_keys, KeepsOrder, IsValidHistory, IsNextStep}
-use Rattle.std.specs.Prelude.{◌≡◌, ◌≤◌, ◌+◌, Bool, true, false, length, Ok}
+use Rattle.std.specs.Prelude.{ℕ, ◌≡◌, ◌≤◌, ◌+◌, Bool, true, false, length, Ok}
 use Rattle.ssa_model.specs.definitions.Json.{Text}
 use Rattle.ssa_model.specs.definitions.Limits.{most_managers}
 use Rattle.ssa_model.specs.definitions.PathMap.{PathSet, get}
@@ -11,8 +11,9 @@ use Rattle.ssa_model.specs.definitions.Parts.{Subresource, is_path_of}
 use Rattle.ssa_model.specs.definitions.Table.{ManagerKey, Table, seat}
 use Rattle.ssa_model.specs.definitions.Fitting.{IsBodyOf}
 use Rattle.ssa_model.specs.definitions.Operations.{State, apply, update, strip, pruned}
-use Rattle.ssa_model.specs.definitions.History.{is_manager_name, Timeline, Label, Bench, present, appended, moved_to, future_len, with_timeline}
-use Rattle.ssa_model.specs.definitions.Answers.{Command, Changed, changed, answer}
+use Rattle.ssa_model.specs.definitions.History.{is_manager_name, Timeline, Label, Bench, present, appended, advanced, held, moved_to, future_len}
+use Rattle.ssa_model.specs.definitions.Answers.{Command, answer}
+use Rattle.ssa_model.specs.definitions.Effect.{is_accepted}
 
 abbrev pub OverKeepsFit : Type 0
 OverKeepsFit = (kind : Kind) (live config : Body) → IsBodyOf kind live → IsBodyOf kind config → IsBodyOf kind (over live config)
@@ -93,10 +94,10 @@ UndoRestores =
 
 abbrev pub AcceptedGoesOn : Type 0
 AcceptedGoesOn =
-    (bench : Bench) (c : Command) (word : Text) (changes : Changed) (label : Label) (s : State) → has_distinct_keys (present bench.timeline).table ≡ true
-    → (answer bench c).0 ≡ changed word changes → (answer bench c).1 ≡ with_timeline bench (appended bench.timeline label s) → IsNextStep bench.timeline label s
+    (bench : Bench) (c : Command) → has_distinct_keys (present bench.timeline).table ≡ true → is_accepted (answer bench c).0 ≡ true
+    → (label : Label) × (s : State) × ((answer bench c).1 ≡ advanced bench label s) × IsNextStep bench.timeline label s
 
 abbrev pub NextKeepsHistory : Type 0
 NextKeepsHistory =
-    (kind : Kind) (t : Timeline) (label : Label) (s : State)
-    → IsValidHistory kind t → t.place ≤ length t.later → IsValidState kind s → IsNextStep t label s → IsValidHistory kind (appended t label s)
+    (kind : Kind) (depth : ℕ) (t : Timeline) (label : Label) (s : State)
+    → IsValidHistory kind depth t → t.place ≤ length t.later → IsValidState kind s → IsNextStep t label s → IsValidHistory kind depth (held depth (appended t label s))

@@ -110,7 +110,7 @@ module _ (readings : Readings) where
   -- the bench of the state that stands behind the schema: of the first one, or of the present one
   abbrev pub shown_in : FileHead → Schema → Json → Option Bench
   shown_in (of_states head) = lone_in readings
-  shown_in (of_records counts) = present_in readings counts.format
+  shown_in (of_records counts) = present_in readings counts.format counts.depth
 
   -- what stands behind that state: all later ones, or the records
   abbrev pub rest_from : FileHead → Bench → Reader

@@ -9,9 +9,9 @@ use Rattle.ssa_model.specs.definitions.Schema.{Schema}
 use Rattle.ssa_model.specs.definitions.Operations.{State}
 use Rattle.ssa_model.specs.definitions.Replies.{label_json}
 use Rattle.ssa_model.specs.definitions.History.{Label, Step, Bench, with_timeline}
-use Rattle.ssa_model.specs.definitions.Answers.{bench_of, file_state}
-use Rattle.ssa_model.specs.definitions.BenchText.{Format, records, parts, format_number, whole_object}
-use Rattle.ssa_model.specs.definitions.Formats.{can_tell_state, can_tell_line, IsFile}
+use Rattle.ssa_model.specs.definitions.Answers.{bench_with, file_state}
+use Rattle.ssa_model.specs.definitions.BenchText.{Format, records, parts, depths, format_number, whole_object}
+use Rattle.ssa_model.specs.definitions.Formats.{tells_depth, can_tell_state, can_tell_line, IsFile}
 use Rattle.ssa_model.specs.definitions.Objects.{is_identity}
 use Rattle.ssa_model.specs.definitions.Lines.{whole_lines}
 use Rattle.ssa_model.specs.definitions.Valid.{IsValidState}
@@ -23,34 +23,45 @@ use Rattle.ssa_model.specs.laws.BenchFiles.{spelled_value, values_of, given_if, 
 
 -- ---- the head and the present object
 
--- the format, and how many commands can be undone and redone, no more than a bench keeps
+-- the format, how many commands the bench keeps, and how many can be undone and redone, no more than that
 pub record Counts : Type 0 where
   pub format : Format
+  pub depth : ℕ
   pub past : ℕ
   pub future : ℕ
 
 -- the format of records with this number
 abbrev pub record_format : ℕ → Option Format
-record_format n = if n == format_number records then Some records else (if n == format_number parts then Some parts else None)
+record_format n = if n == format_number records then Some records else (if n == format_number parts then Some parts else (if n == format_number depths then Some depths else None))
 
 abbrev pub format_in : Json → Option Format
 format_in v = option_and_then record_format (number_in (member_at (codes "format") v))
+
+-- the depth that a head says in a format that tells of it, else the greatest
+abbrev pub depth_in : Format → Json → Option ℕ
+depth_in f v = if tells_depth f then number_in (member_at (codes "depth") v) else Some most_past
+
+-- a bench may be so deep, and keep so many commands
+abbrev pub is_head : ℕ → ℕ → ℕ → Bool
+is_head depth past future = nat_le 1 depth && (nat_le depth most_past && nat_le (past + future) depth)
 
 abbrev pub counts_in : Json → Option Counts
 counts_in v =
     option_and_then
     (λ f. option_and_then
+    (λ depth. option_and_then
     (λ past. option_and_then
-    (λ future. given_if (is_written_as (record_head f past future) v && nat_le (past + future) most_past)
-    (record { format = f; past = past; future = future }))
+    (λ future. given_if (is_written_as (record_head f depth past future) v && is_head depth past future)
+    (record { format = f; depth = depth; past = past; future = future }))
     (number_in (member_at (codes "future") v)))
     (number_in (member_at (codes "past") v)))
+    (depth_in f v))
     (format_in v)
 
--- the bench of the present state alone, of whose managers the format can tell
-abbrev pub present_in : Readings → Format → Schema → Json → Option Bench
-present_in readings f schema v =
-    elim (bench_of readings schema v)
+-- the bench of the present state alone, of this depth, of whose managers the format can tell
+abbrev pub present_in : Readings → Format → ℕ → Schema → Json → Option Bench
+present_in readings f depth schema v =
+    elim (bench_with readings depth schema v)
     [ Ok bench ↦ given_if (is_written_as (whole_object bench bench.timeline.first) v && can_tell_state f bench.timeline.first) bench | Err e ↦ None ]
 
 -- ---- the lines
@@ -106,7 +117,7 @@ lines_bench readings counts now js =
 abbrev pub recorded_bench : Readings → List Json → Option Bench
 recorded_bench readings (head ∷ source ∷ now ∷ js) =
     option_and_then
-    (λ counts. option_and_then (λ schema. option_and_then (λ bench. lines_bench readings counts bench js) (present_in readings counts.format schema now)) (schema_in source))
+    (λ counts. option_and_then (λ schema. option_and_then (λ bench. lines_bench readings counts bench js) (present_in readings counts.format counts.depth schema now)) (schema_in source))
     (counts_in head)
 recorded_bench readings _ = None
 
@@ -180,7 +191,7 @@ abbrev pub opening_in : Readings → Text → Text → Text → Option (Counts �
 opening_in readings head source now =
     option_and_then
     (λ counts. option_and_then
-    (λ schema. option_map (λ bench. (counts, bench)) (option_and_then (present_in readings counts.format schema) (spelled_value readings now)))
+    (λ schema. option_map (λ bench. (counts, bench)) (option_and_then (present_in readings counts.format counts.depth schema) (spelled_value readings now)))
     (option_and_then schema_in (spelled_value readings source)))
     (option_and_then counts_in (spelled_value readings head))
 

@@ -1,4 +1,4 @@
-use Rattle.std.proofs.Common.{ap, arith}
+use Rattle.std.proofs.Common.{ap, arith, ◌∙◌}
 use Rattle.ssa_model.specs.definitions.History.{Bench, appended}
 use Rattle.ssa_file.specs.Recording.{format_view}
 use Rattle.ssa_bench.specs.Loading.{ReadsMoves}
@@ -25,15 +25,17 @@ returns-in_err-go_on_by-clause-read g c =
     c.from_residual-in_err-go_on_by.ensures.1
     (went-refused (format_view c.args.format) appended c.args.count c.loop.counter _ _ _ _ c.loop.room c.next_line.new.room c.args.bench.now c.loop.bench c.go_on_by.new.self
     c.in_ok-line.line fault
-    c.loop-test.true c.loop.invariant.0 c.in_ok-line.ensures.read c.in_err-go_on_by.ensures)
+    c.loop-test.true c.loop.invariant.0 c.in_ok-line.ensures.read c.in_err-go_on_by.ensures.moves)
 
 pub loop-preserved : goal.loop-preserved
 loop-preserved g c =
-    let moved = c.in_ok-go_on_by.ensures in
+    let moved = c.in_ok-go_on_by.ensures.moves in
     let place = ap (λ (b : Bench). b.timeline.place) moved.2 in
-    let before = c.loop.invariant.1 in (
+    let before = c.loop.invariant.1 in
+    let deep = ap (λ (b : Bench). b.depth) moved.2 in (
       went-more (format_view c.args.format) appended c.args.count c.loop.counter _ _ _ _ c.loop.room c.next_line.new.room c.args.bench.now c.loop.bench c.go_on_by.new.self
           c.in_ok-line.line
           c.loop-test.true c.loop.invariant.0 c.in_ok-line.ensures.read moved,
       omega (arith, place, before),
+      deep ∙ c.loop.invariant.2,
     )

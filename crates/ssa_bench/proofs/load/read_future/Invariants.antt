@@ -11,3 +11,4 @@ abbrev pub invariant-loop : goal.invariant-loop
 invariant-loop g l =
     Went (along readings (format_view l.format) appended) l.count l.counter (g.R.Source.remaining l.initial.reader) (g.R.Source.remaining l.reader) l.initial.room l.room l.initial.bench l.bench
     × (past_len l.bench.timeline ≡ past_len l.initial.bench.timeline + l.counter)
+    × (l.bench.depth ≡ l.initial.bench.depth)

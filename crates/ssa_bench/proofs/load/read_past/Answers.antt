@@ -1,4 +1,4 @@
-use Rattle.std.proofs.Common.{length, ap, arith}
+use Rattle.std.proofs.Common.{length, ap, arith, ◌∙◌}
 use Rattle.ssa_model.specs.definitions.History.{Bench}
 use Rattle.ssa_model.specs.laws.LineByLine.{preceded}
 use Rattle.ssa_file.specs.Recording.{format_view}
@@ -26,16 +26,18 @@ returns-in_err-go_back_by-clause-read g c =
     c.from_residual-in_err-go_back_by.ensures.1
     (went-refused (format_view c.args.format) preceded c.args.count c.loop.counter _ _ _ _ c.loop.room c.next_line.new.room c.args.bench.now c.loop.bench c.go_back_by.new.self
     c.in_ok-line.line fault
-    c.loop-test.true c.loop.invariant.0 c.in_ok-line.ensures.read c.in_err-go_back_by.ensures)
+    c.loop-test.true c.loop.invariant.0 c.in_ok-line.ensures.read c.in_err-go_back_by.ensures.moves)
 
 pub loop-preserved : goal.loop-preserved
 loop-preserved g c =
-    let moved = c.in_ok-go_back_by.ensures in
+    let moved = c.in_ok-go_back_by.ensures.moves in
     let place = ap (λ (b : Bench). b.timeline.place) moved.2 in
     let many = ap (λ (b : Bench). length b.timeline.later) moved.2 in
-    let before = c.loop.invariant.1.1 in (
+    let before = c.loop.invariant.1.1 in
+    let deep = ap (λ (b : Bench). b.depth) moved.2 in (
       went-more (format_view c.args.format) preceded c.args.count c.loop.counter _ _ _ _ c.loop.room c.next_line.new.room c.args.bench.now c.loop.bench c.go_back_by.new.self
           c.in_ok-line.line
           c.loop-test.true c.loop.invariant.0 c.in_ok-line.ensures.read moved,
       (place, omega (arith, many, before)),
+      deep ∙ c.loop.invariant.2,
     )

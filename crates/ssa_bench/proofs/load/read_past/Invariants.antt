@@ -11,3 +11,4 @@ abbrev pub invariant-loop : goal.invariant-loop
 invariant-loop g l =
     Went (along readings (format_view l.format) preceded) l.count l.counter (g.R.Source.remaining l.initial.reader) (g.R.Source.remaining l.reader) l.initial.room l.room l.initial.bench l.bench
     × ((past_len l.bench.timeline ≡ 0) × (length l.bench.timeline.later ≡ length l.initial.bench.timeline.later + l.counter))
+    × (l.bench.depth ≡ l.initial.bench.depth)

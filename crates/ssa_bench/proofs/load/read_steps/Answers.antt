@@ -1,4 +1,4 @@
-use Rattle.std.proofs.Common.{ap, arith}
+use Rattle.std.proofs.Common.{ap, arith, ◌∙◌}
 use Rattle.ssa_model.specs.definitions.History.{Bench}
 use Rattle.ssa_bench.specs.Loading.{ReadsSteps}
 use Rattle.ssa_bench.proofs.LoadedParts.{fault-handed}
@@ -24,15 +24,17 @@ returns-in_err-take_line-clause-read g c =
     c.from_residual-in_err-take_line.ensures.1
     (stepped-refused c.args.count c.loop.counter _ _ _ _ c.loop.room c.next_line.new.room c.args.bench.now c.loop.bench c.take_line.new.self
     c.in_ok-line.line fault
-    c.loop-test.true c.loop.invariant.0 c.in_ok-line.ensures.read c.in_err-take_line.ensures)
+    c.loop-test.true c.loop.invariant.0 c.in_ok-line.ensures.read c.in_err-take_line.ensures.goes)
 
 pub loop-preserved : goal.loop-preserved
 loop-preserved g c =
-    let moved = c.in_ok-take_line.ensures in
+    let moved = c.in_ok-take_line.ensures.goes in
     let place = ap (λ (b : Bench). b.timeline.place) moved.2 in
-    let before = c.loop.invariant.1 in (
+    let before = c.loop.invariant.1 in
+    let deep = ap (λ (b : Bench). b.depth) moved.2 in (
       stepped-more c.args.count c.loop.counter _ _ _ _ c.loop.room c.next_line.new.room c.args.bench.now c.loop.bench c.take_line.new.self
           c.in_ok-line.line
           c.loop-test.true c.loop.invariant.0 c.in_ok-line.ensures.read moved,
       omega (arith, place, before),
+      deep ∙ c.loop.invariant.2,
     )

@@ -11,3 +11,4 @@ invariant-loop g l =
     Went (steps_from readings) l.count l.counter (g.R.Source.remaining l.initial.reader) (g.R.Source.remaining l.reader) l.initial.room l.room
     l.initial.bench l.bench
     × (past_len l.bench.timeline ≡ past_len l.initial.bench.timeline + l.counter)
+    × (l.bench.depth ≡ l.initial.bench.depth)

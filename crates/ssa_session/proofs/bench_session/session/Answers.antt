@@ -8,8 +8,8 @@ returns-clause-ok g c = on_ok_weaker c.session.result (runs-all
       told = c.headline_holds.ensures.told;
       runs = c.headline_holds.ensures.runs;
       effect = c.headline_holds.ensures.effect;
-      history = c.headline_holds.ensures.history;
-    }) _ _ _ _ c.args.bench.now c.session.new.machine) c.session.ensures.ok
+      goes_on = c.headline_holds.ensures.any;
+    }) _ _ _ _ c.args.bench.now c.session.new.machine c.is_valid.ensures.place) c.session.ensures.ok
 
 pub returns-clause-reader : goal.returns-clause-reader
 returns-clause-reader g c =
@@ -17,8 +17,8 @@ returns-clause-reader g c =
       told = c.headline_holds.ensures.told;
       runs = c.headline_holds.ensures.runs;
       effect = c.headline_holds.ensures.effect;
-      history = c.headline_holds.ensures.history;
-    }) _ _ _ _ c.args.bench.now c.session.new.machine (c.session.ensures.reader h)
+      goes_on = c.headline_holds.ensures.any;
+    }) _ _ _ _ c.args.bench.now c.session.new.machine c.is_valid.ensures.place (c.session.ensures.reader h)
 
 pub returns-clause-writer : goal.returns-clause-writer
 returns-clause-writer g c =
@@ -26,5 +26,5 @@ returns-clause-writer g c =
       told = c.headline_holds.ensures.told;
       runs = c.headline_holds.ensures.runs;
       effect = c.headline_holds.ensures.effect;
-      history = c.headline_holds.ensures.history;
-    }) _ _ _ _ c.args.bench.now c.session.new.machine (c.session.ensures.writer h)
+      goes_on = c.headline_holds.ensures.any;
+    }) _ _ _ _ c.args.bench.now c.session.new.machine c.is_valid.ensures.place (c.session.ensures.writer h)

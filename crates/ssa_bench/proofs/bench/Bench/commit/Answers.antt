@@ -1,9 +1,9 @@
-use Rattle.std.proofs.Common.{sym, subst}
+use Rattle.std.proofs.Common.{ap, sym, subst, ◌∙◌}
 use Rattle.ssa_model.specs.definitions.History as model
-use Rattle.ssa_model.specs.definitions.Valid.{IsNextStep, IsValidHistory}
+use Rattle.ssa_model.specs.definitions.History.{held}
+use Rattle.ssa_model.specs.definitions.Valid.{IsValidHistory}
 use Rattle.ssa_turn.specs.Histories.{label_view}
-use Rattle.ssa_model.proofs.ValidTimelines.{present_valid}
-use Rattle.ssa_model.proofs.ValidHistories.{accepted_goes_on, next_keeps_history}
+use Rattle.ssa_model.proofs.ValidHistories.{next_keeps_history}
 use Rattle.ssa_bench.specs.Benches.{IsPreparedOn, led_to}
 use Rattle.ssa_bench.specs.BenchView.{bench_view}
 use Rattle.ssa_bench.proofs.bench.Bench.commit.Goals as goal
@@ -30,7 +30,5 @@ invariant_of-self-2 c =
     let label = label_view c.args.prepared.step.value.1 in
     let state = led_to bench c.args.prepared in
     let prepared : IsPreparedOn bench c.args.prepared = subst (λ n. IsPreparedOn n c.args.prepared) (sym c.self.view_is) c.requires in
-    let distinct = (present_valid b.schema.kind b.timeline c.self.invariant.states).table.managers.distinct in
-    let next : IsNextStep b.timeline label state = accepted_goes_on bench prepared.0 prepared.1 _ label state distinct prepared.2.reply prepared.2.next in
-    subst (IsValidHistory b.schema.kind) (sym c.in_ok-append.ensures.ok)
-    (next_keeps_history b.schema.kind b.timeline label state c.self.invariant c.place_is_within.ensures prepared.2.valid next)
+    subst (IsValidHistory b.schema.kind b.depth) (sym (c.hold.ensures ∙ ap (held b.depth) c.in_ok-append.ensures.ok))
+    (next_keeps_history b.schema.kind b.depth b.timeline label state c.self.invariant c.place_is_within.ensures prepared.2.valid prepared.2.step)

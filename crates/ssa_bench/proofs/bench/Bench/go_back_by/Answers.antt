@@ -2,7 +2,6 @@ use Rattle.std.proofs.Common.{◌≡◌, ◌<◌, Ok, ap, length, sym, subst, �
 use Rattle.ssa_model.specs.definitions.Carry.{carry}
 use Rattle.ssa_model.specs.definitions.History as model
 use Rattle.ssa_model.specs.definitions.History.{last_state, past_len, present, with_timeline}
-use Rattle.ssa_model.specs.definitions.Limits.{most_past}
 use Rattle.ssa_model.specs.definitions.Operations.{State}
 use Rattle.ssa_model.specs.definitions.Valid.{IsValidHistory, KeepsOrder}
 use Rattle.ssa_model.specs.laws.LineByLine.{preceded}
@@ -56,18 +55,18 @@ invariant_of-self-2 c =
     let same = sym (c.self.view_is ∙ c.in_ok-step.ensures.same) in
     let told = subst (λ (n : model.Bench). TellsMove (format_view c.args.format) n (Ok c.in_ok-step.step) v) same c.in_ok-step.ensures.told in
     let first = subst (λ (n : model.Bench). past_len n.timeline ≡ 0) same c.requires.first in
-    let few = subst (λ (n : model.Bench). length n.timeline.later < most_past) same c.requires.few in
+    let few = subst (λ (n : model.Bench). length n.timeline.later < n.depth) same c.requires.few in
     let w = told.0 in
     let label = label_view c.in_ok-step.step.label in
     let unboxed = ap (λ (e : StateDelta × Label). preceded b.timeline (label_view e.1) (carry (state_steps e.0) (present b.timeline))) c.in_ok-boxed.ensures in
     let led = fixes_target bench.schema.kind (state_steps c.in_ok-step.step.delta) (present b.timeline) w told.1.takes in
     let now : present b.timeline ≡ b.timeline.first = ap (λ n. last_state b.timeline.first (take n b.timeline.later)) first in
     let order = subst (λ (s : State). KeepsOrder s.table w.table) now told.1.takes.order in
-    subst (IsValidHistory b.schema.kind) (sym (c.in_ok-precede.ensures.ok ∙ unboxed ∙ ap (preceded b.timeline label) led))
-    (preceded-history b.schema.kind b.timeline label w c.self.invariant few told.1.takes.to order told.1.named)
+    subst (IsValidHistory b.schema.kind b.depth) (sym (c.in_ok-precede.ensures.ok ∙ unboxed ∙ ap (preceded b.timeline label) led))
+    (preceded-history b.schema.kind b.depth b.timeline label w c.self.invariant few told.1.takes.to order told.1.named)
 
-pub returns : goal.returns
-returns c =
+pub returns-clause-moves : goal.returns-clause-moves
+returns-clause-moves c =
     let b = c.self.inside in
     let bench : model.Bench = bench_view b in
     let v = view c.args.line.now.value in
@@ -81,6 +80,6 @@ returns c =
     let goes = c.in_ok-precede.ensures.ok ∙ unboxed ∙ ap (preceded b.timeline label) led in (
       (label, w),
       own.1.move,
-      (λ i. record { schema = b.schema; identity = b.identity; timeline = goes i })
+      (λ i. record { schema = b.schema; identity = b.identity; depth = b.depth; timeline = goes i })
           ∙ ap (λ (n : model.Bench). with_timeline n (preceded n.timeline label w)) (sym same),
     )

@@ -9,7 +9,7 @@ returns c =
     let b = c.self.inside in
     let history = c.self.invariant in
     let back = c.own_entries_are_read.ensures in
-    let valid : IsValidBench readings (record { schema = b.schema; identity = b.identity; timeline = b.timeline }) = record {
+    let valid : IsValidBench readings (record { schema = b.schema; identity = b.identity; depth = b.depth; timeline = b.timeline }) = record {
       read = c.kind-kind.ensures.read;
       accepted = c.kind-kind.ensures.accepted;
       named = c.parts_are_named.ensures;
@@ -18,6 +18,7 @@ returns c =
       steps = all-steps b.timeline.later history.names c.own_moments_are_read.ensures back.later;
       order = history.order;
       place = c.place_is_within.ensures;
+      deep = (c.number-depth.ensures.least, c.number-depth.ensures.most);
       few = history.few;
     } in
     subst (IsValidBench readings) c.self.view_is valid

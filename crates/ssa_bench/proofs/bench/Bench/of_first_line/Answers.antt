@@ -4,6 +4,7 @@ use Rattle.ssa_model.specs.definitions.BenchText.{first_json}
 use Rattle.ssa_model.specs.definitions.Formats.{is_main_state}
 use Rattle.ssa_model.specs.definitions.History.{present}
 use Rattle.ssa_model.specs.definitions.Json.{compact, same_text}
+use Rattle.ssa_model.specs.definitions.Limits.{most_past}
 use Rattle.ssa_model.specs.laws.BenchFiles.{given_if, lone_in}
 use Rattle.ssa_json.specs.Readings.{readings}
 use Rattle.ssa_json.specs.View.{view}
@@ -15,10 +16,13 @@ use Rattle.ssa_bench.proofs.ToldInFormat.{lone-told, lone-untold}
 use Rattle.ssa_bench.proofs.bench.Bench.of_first_line.Goals as goal
 
 pub returns-then-branch-clause-lone : goal.returns-then-branch-clause-lone
-returns-then-branch-clause-lone c = (lone-parts readings c.args.schema (view c.object_in.result) c.in-Ok.bench c.in-Ok.ensures).alone
+returns-then-branch-clause-lone c = (lone-parts readings most_past c.args.schema (view c.object_in.result) c.in-Ok.bench c.in-Ok.ensures).alone
+
+pub returns-then-branch-clause-depth : goal.returns-then-branch-clause-depth
+returns-then-branch-clause-depth c = sym (lone-parts readings most_past c.args.schema (view c.object_in.result) c.in-Ok.bench c.in-Ok.ensures).depth_is
 
 pub is_first_line-requires : goal.is_first_line-requires
-is_first_line-requires c = (lone-parts readings c.args.schema (view c.object_in.result) c.in-Ok.bench c.in-Ok.ensures).alone
+is_first_line-requires c = (lone-parts readings most_past c.args.schema (view c.object_in.result) c.in-Ok.bench c.in-Ok.ensures).alone
 
 pub returns-in_err-is_first_line-in-Ok-clause-taken : goal.returns-in_err-is_first_line-in-Ok-clause-taken
 returns-in_err-is_first_line-in-Ok-clause-taken c =
@@ -29,7 +33,7 @@ pub returns-then-not-has_main_managers-clause-taken : goal.returns-then-not-has_
 returns-then-not-has_main_managers-clause-taken c =
     let bench = c.in-Ok.bench in
     let made = ap (bench_of readings c.args.schema) (sym c.object_in.ensures) ∙ c.in-Ok.ensures in
-    let alone = (lone-parts readings c.args.schema (view c.object_in.result) bench c.in-Ok.ensures).alone in
+    let alone = (lone-parts readings most_past c.args.schema (view c.object_in.result) bench c.in-Ok.ensures).alone in
     lone-untold c.args.schema (view c.args.line.value) bench made
     (ap is_main_state (sym (ap present alone)) ∙ sym c.has_main_managers.ensures ∙ c.if-not-has_main_managers.true)
 
@@ -37,7 +41,7 @@ pub returns-then-branch-clause-taken : goal.returns-then-branch-clause-taken
 returns-then-branch-clause-taken c =
     let bench = c.in-Ok.bench in
     let made = ap (bench_of readings c.args.schema) (sym c.object_in.ensures) ∙ c.in-Ok.ensures in
-    let alone = (lone-parts readings c.args.schema (view c.object_in.result) bench c.in-Ok.ensures).alone in
+    let alone = (lone-parts readings most_past c.args.schema (view c.object_in.result) bench c.in-Ok.ensures).alone in
     let text = ap (same_text (compact (first_json bench))) (sym (c.deref.ensures.value ∙ c.requires)) in
     lone-told c.args.schema (view c.args.line.value) bench made
     (ap is_main_state (sym (ap present alone)) ∙ sym c.has_main_managers.ensures ∙ c.if-not-has_main_managers.false)

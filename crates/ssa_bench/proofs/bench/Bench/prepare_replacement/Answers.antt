@@ -76,7 +76,7 @@ returns-in_ok-prepared-in-Ok c =
     } in
     let on_kind : model.Bench → Type 0 = λ n. IsKept n.schema.kind (present bench.timeline) change in
     let now_kind : model.Bench → Type 0 = λ n. IsValidState n.schema.kind (present bench.timeline) in
-    accepted bench (codes "update") label change p (to (present bench.timeline) who)
+    accepted bench (codes "update") label change p (to (present bench.timeline) who) c.requires.named
     (subst (λ s. IsRecorded s label change p) now_is made)
     (planned-at to (Ok change) before (present bench.timeline) c.as_str.result.now who now_is c.as_str.ensures.value c.in-Ok.ensures.change)
     (subst now_kind c.self.view_is (subst (IsValidState kind) now_is live))

@@ -1,6 +1,6 @@
-use Rattle.std.proofs.Common.{ap, sym, subst, ◌∙◌}
+use Rattle.std.proofs.Common.{ap, codes, refl, sym, subst, ◌∙◌}
 use Rattle.ssa_model.specs.definitions.History as model
-use Rattle.ssa_model.specs.definitions.History.{past_len, present}
+use Rattle.ssa_model.specs.definitions.History.{present}
 use Rattle.ssa_model.specs.definitions.Operations.{State, strip}
 use Rattle.ssa_model.specs.definitions.Valid.{IsValidState}
 use Rattle.ssa_model.specs.definitions.RecordReading.{HasReadPaths}
@@ -9,7 +9,7 @@ use Rattle.ssa_merge.specs.States.{state_view}
 use Rattle.ssa_merge.specs.Plans.{IsChange}
 use Rattle.ssa_turn.specs.TablesBack.{HasTableBack}
 use Rattle.ssa_turn.specs.declared.label.Label.TheVariants.{Strip}
-use Rattle.ssa_bench.proofs.Planned.{IsKept, IsRecorded, compares-itself, leads-itself, present-back, present-paths, stripped-accepted}
+use Rattle.ssa_bench.proofs.Planned.{IsKept, IsRecorded, compares-itself, leads-itself, planned, present-back, present-paths}
 use Rattle.ssa_model.proofs.ValidTimelines.{present_valid}
 use Rattle.ssa_bench.proofs.bench.Bench.prepare_strip.Goals as goal
 
@@ -48,7 +48,6 @@ returns c =
     let changes : State → Type 0 = λ s. IsChange s change (strip s) in
     let live = subst (IsValidState kind) (sym c.present-now.ensures) (present_valid kind b.timeline c.self.invariant.states) in
     let now_is = c.present-now.ensures ∙ ap (λ n. present n.timeline) c.self.view_is in
-    let count = c.past_len.ensures.count ∙ ap (λ n. past_len n.timeline) c.self.view_is in
     let made : IsRecorded before Strip change p = record {
       label_is = c.in_ok-prepared.ensures.label;
       record_is = c.in_ok-prepared.ensures.record;
@@ -63,7 +62,7 @@ returns c =
     } in
     let on_kind : model.Bench → Type 0 = λ n. IsKept n.schema.kind (present bench.timeline) change in
     let now_kind : model.Bench → Type 0 = λ n. IsValidState n.schema.kind (present bench.timeline) in
-    stripped-accepted bench change p c.past_len.result count c.if-past_len-ge-MOST_PAST.false
+    planned bench (codes "strip") Strip change p (strip (present bench.timeline)) refl
     (subst (λ s. IsRecorded s Strip change p) now_is made)
     (subst changes now_is c.in_ok-change.ensures.change)
     (subst now_kind c.self.view_is (subst (IsValidState kind) now_is live))

@@ -2,7 +2,7 @@ use Rattle.std.proofs.Common.{◌≡◌, ◌≤◌, ℕ, Bool, List, Option, len
 use Rattle.std.specs.Io.KnownBytes.{Appends}
 use Rattle.ssa_model.specs.definitions.Limits.{most_bench_bytes}
 use Rattle.ssa_model.specs.definitions.Json.{Text}
-use Rattle.ssa_model.specs.definitions.BenchText.{parts}
+use Rattle.ssa_model.specs.definitions.BenchText.{depths}
 use Rattle.ssa_model.specs.definitions.RecordedBench.{recorded_text}
 use Rattle.ssa_json.specs.Devices.{AppendsPart}
 use Rattle.ssa_json.specs.Readings.{readings}
@@ -22,7 +22,7 @@ pub returns-in_err-write_text-clause-refused : goal.returns-in_err-write_text-cl
 returns-in_err-write_text-clause-refused g c =
     let whole = c.deref.ensures.value ∙ c.in_ok-text.ensures.ok in
     handed-on c.from_residual-in_err-write_text.result Io _ c.from_residual-in_err-write_text.ensures.1
-    (broken_off g.S.Sink.contents g.S.Sink.has_failed c.args.sink.now c.write_text.new.sink c.deref.result.now (recorded_text parts c.args.self.now) whole
+    (broken_off g.S.Sink.contents g.S.Sink.has_failed c.args.sink.now c.write_text.new.sink c.deref.result.now (recorded_text depths c.args.self.now) whole
     (subst (λ (t : Text). length t ≤ most_bench_bytes) (sym c.deref.ensures.value) c.in_ok-text.ensures.fits) c.in_err-write_text.ensures.err
     c.in_err-write_text.ensures.failed)
 
@@ -36,7 +36,7 @@ returns-clause-file g c =
     let bench = c.args.self.now in
     let made = c.in_ok-text.ensures.of_program in
     is-file bench c.compact_is_read.ensures
-    (c.recorded_values_are_shallow.ensures.recorded readings parts bench c.is_valid.ensures
+    (c.recorded_values_are_shallow.ensures.recorded readings depths bench c.is_valid.ensures
     (c.rising_names_are_distinct.ensures bench.schema.source (source-names bench made)))
     c.is_valid.ensures c.paths_are_read.ensures made
     (subst (λ (t : Text). length t ≤ most_bench_bytes) c.in_ok-text.ensures.ok c.in_ok-text.ensures.fits)

@@ -19,7 +19,7 @@ record IsShown (n : model.Bench) : Type 0 where
 pub returns : goal.returns
 returns c =
     let b = c.self.inside in
-    let inside : model.Bench = record { schema = b.schema; identity = b.identity; timeline = b.timeline } in
+    let inside : model.Bench = record { schema = b.schema; identity = b.identity; depth = b.depth; timeline = b.timeline } in
     let has : IsShown inside = record {
       accepted = c.kind-kind.ensures.accepted;
       valid = present_valid b.schema.kind b.timeline c.self.invariant.states;

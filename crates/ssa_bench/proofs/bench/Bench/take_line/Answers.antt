@@ -1,13 +1,11 @@
 use Rattle.std.proofs.Common.{◌≡◌, ◌<◌, Some, sym, ap, subst, ◌∙◌}
 use Rattle.ssa_model.specs.definitions.Carry.{carry}
-use Rattle.ssa_model.specs.definitions.Limits.{most_past}
 use Rattle.ssa_model.specs.definitions.Operations.{State}
 use Rattle.ssa_model.specs.definitions.Record.{record_of}
 use Rattle.ssa_model.specs.definitions.History as model
 use Rattle.ssa_model.specs.definitions.History.{appended, past_len, present, with_timeline}
 use Rattle.ssa_model.specs.definitions.Valid.{IsNextStep, IsValidHistory, IsValidState, KeepsOrder}
 use Rattle.ssa_model.specs.laws.BenchFiles.{step_in}
-use Rattle.ssa_model.proofs.ValidHistories.{next_keeps_history}
 use Rattle.ssa_model.proofs.ValidTimelines.{present_valid}
 use Rattle.ssa_json.specs.Readings.{readings}
 use Rattle.ssa_json.specs.View.{view}
@@ -20,6 +18,7 @@ use Rattle.ssa_bench.specs.BenchView.{bench_view}
 use Rattle.ssa_bench.specs.Taking.{taken_view}
 use Rattle.ssa_bench.proofs.Planned.{IsLed, led-by}
 use Rattle.ssa_bench.proofs.TakenStates.{taken-follows}
+use Rattle.ssa_bench.proofs.TakenLines.{appended-history}
 use Rattle.ssa_bench.proofs.bench.Bench.take_line.Goals as goal
 
 pub leading-requires-clause-valid : goal.leading-requires-clause-valid
@@ -96,15 +95,15 @@ invariant_of-self-2 c =
     let is = c.in_ok-delta.ensures.record ∙ ap (λ n. record_of n s.state) c.present.ensures in
     let leads : IsLed (state_steps c.in_ok-delta.delta) before s.state =
     led-by kind (state_steps c.in_ok-delta.delta) before s.state is (present_valid kind b.timeline c.self.invariant.states) valid follows.order in
-    let few : past_len bench.timeline < most_past = subst (λ (n : model.Bench). past_len n.timeline < most_past) (sym c.self.view_is) c.requires.few in
-    let next : IsNextStep b.timeline s.label s.state = record { order = follows.order; named = follows.named; few = few } in
+    let few : past_len bench.timeline < bench.depth = subst (λ (n : model.Bench). past_len n.timeline < n.depth) (sym c.self.view_is) c.requires.few in
+    let next : IsNextStep b.timeline s.label s.state = record { order = follows.order; named = follows.named } in
     let unboxed = ap (λ (e : StateDelta × Label). appended b.timeline (label_view e.1) (carry (state_steps e.0) before)) c.in_ok-boxed.ensures in
     let goes_on = c.in_ok-append.ensures.ok ∙ unboxed ∙ ap (appended b.timeline s.label) leads.led in
-    subst (IsValidHistory kind) (sym goes_on)
-    (next_keeps_history kind b.timeline s.label s.state c.self.invariant c.place_is_within.ensures valid next)
+    subst (IsValidHistory kind b.depth) (sym goes_on)
+    (appended-history kind b.depth b.timeline s.label s.state c.self.invariant c.place_is_within.ensures few valid next)
 
-pub returns : goal.returns
-returns c =
+pub returns-clause-goes : goal.returns-clause-goes
+returns-clause-goes c =
     let b = c.self.inside in
     let kind = b.schema.kind in
     let bench : model.Bench = bench_view b in
@@ -122,6 +121,6 @@ returns c =
     let goes_on = c.in_ok-append.ensures.ok ∙ unboxed ∙ ap (appended b.timeline s.label) leads.led in (
       s,
       c.in_ok-taken.ensures.taken,
-      (λ i. record { schema = b.schema; identity = b.identity; timeline = goes_on i })
+      (λ i. record { schema = b.schema; identity = b.identity; depth = b.depth; timeline = goes_on i })
           ∙ ap (λ n. with_timeline n (appended n.timeline s.label s.state)) c.self.view_is,
     )

@@ -7,5 +7,5 @@ use Rattle.ssa_bench.proofs.bench.Bench.with_lone_state.Goals as goal
 
 pub invariant_of-result : goal.invariant_of-result
 invariant_of-result c =
-    let all : Timeline → Type 0 = IsValidHistory c.args.schema.kind in
-    subst all (sym c.new.ensures) (lone_history c.args.schema.kind (state_view c.args.first) c.requires)
+    let all : Timeline → Type 0 = IsValidHistory c.args.schema.kind c.args.depth in
+    subst all (sym c.new.ensures) (lone_history c.args.schema.kind c.args.depth (state_view c.args.first) c.requires)

@@ -8,20 +8,20 @@ use Rattle.ssa_json.specs.View.{view}
 use Rattle.ssa_merge.specs.States.{state_view}
 use Rattle.ssa_model.specs.definitions.Commands.{text_in}
 use Rattle.ssa_object.specs.Identities.{identity_in, version_of}
-use Rattle.ssa_bench.proofs.Taken.{passed-on, identity-found, bench_of-no_object, bench_of-nameless, bench_of-state}
-use Rattle.ssa_bench.proofs.bench.Bench.new.Goals as goal
+use Rattle.ssa_bench.proofs.Taken.{passed-on, identity-found, bench-no_object, bench-nameless, bench-state}
+use Rattle.ssa_bench.proofs.bench.Bench.with_depth.Goals as goal
 
 pub returns-then-not-is_object : goal.returns-then-not-is_object
 returns-then-not-is_object c = (
   body_fault wrong_type [],
-  bench_of-no_object c.args.schema (view c.args.object) (sym c.is_object.ensures ∙ c.if-not-is_object.true),
+  bench-no_object c.args.depth c.args.schema (view c.args.object) (sym c.is_object.ensures ∙ c.if-not-is_object.true),
   (fault_at wrong_type [], refl, (λ i. (wrong_type, map string_bytes (c.new.ensures.items i)))),
 )
 
 pub returns-in_default : goal.returns-in_default
 returns-in_default c =
     let none : ◌≡◌ {A = Option Identity} None (identity_in (view c.args.object)) = sym c.in_default.is ∙ c.in_ok-identity.ensures in
-    (identity_fault, bench_of-nameless c.args.schema (view c.args.object) (sym c.is_object.ensures ∙ c.if-not-is_object.false) none, refl)
+    (identity_fault, bench-nameless c.args.depth c.args.schema (view c.args.object) (sym c.is_object.ensures ∙ c.if-not-is_object.false) none, refl)
 
 pub file_state-requires : goal.file_state-requires
 file_state-requires c =
@@ -31,7 +31,7 @@ file_state-requires c =
 pub returns-in-Ok : goal.returns-in-Ok
 returns-in-Ok c =
     let some : ◌≡◌ {A = Option Identity} (Some c.in-Some.identity) (identity_in (view c.args.object)) = sym c.in-Some.is ∙ c.in_ok-identity.ensures in
-    bench_of-state c.args.schema (view c.args.object) c.in-Some.identity (Ok (state_view c.in-Ok.state)) (sym c.is_object.ensures
+    bench-state c.args.depth c.args.schema (view c.args.object) c.in-Some.identity (Ok (state_view c.in-Ok.state)) (sym c.is_object.ensures
     ∙ c.if-not-is_object.false) some c.in-Ok.ensures.given
     ∙ ap Ok (sym c.with_lone_state.ensures)
 
@@ -41,4 +41,4 @@ returns-in-Err c =
     let v = view c.args.object in
     let some : ◌≡◌ {A = Option Identity} (Some c.in-Some.identity) (identity_in v) = sym c.in-Some.is ∙ c.in_ok-identity.ensures in
     passed-on c.in-Err.fault (file_state readings schema.kind v) _
-    (λ g e. bench_of-state schema v c.in-Some.identity (Err g) (sym c.is_object.ensures ∙ c.if-not-is_object.false) some e) c.in-Err.ensures.given
+    (λ g e. bench-state c.args.depth schema v c.in-Some.identity (Err g) (sym c.is_object.ensures ∙ c.if-not-is_object.false) some e) c.in-Err.ensures.given
