@@ -105,31 +105,6 @@ fn put_child(
     Ok(())
 }
 
-/// Adds the paths of a trie below an element, unless there are none.
-///
-/// On `Err` the children are as they were.
-pub fn gather(
-    alloc: Global,
-    below: &mut Vec<(Elem, Trie)>,
-    element: &Elem,
-    child: Trie,
-) -> Result<(), AllocError>
-    requires rise { rises (elements below.old.items) ≡ true }
-    requires tries { are_filled_tries below.old.items ≡ true }
-    requires absent { child_at (element_view element.now) below.old.items ≡ None }
-    requires trie { is_trie child ≡ true }
-    ensures ok { OnOk result (IsGathered below.old.items (element_view element.now) child below.new.items) }
-    ensures err { OnErr result (below.new.items ≡ below.old.items) }
-{
-    if !child.has_paths() {
-        return Ok(());
-    }
-    match search(below, element) {
-        Err(place) => put_child(alloc, below, place, element, child),
-        Ok(_) => unreachable!(),
-    }
-}
-
 // Whether the child has some path.
 fn has_any(child: &(Elem, Trie)) -> bool
     ensures { result ≡ has_any child.now }
