@@ -1,4 +1,4 @@
-// Sets of paths read from FieldsV1.
+//! Sets of paths read from FieldsV1.
 ghost use Rattle.std.specs.Prelude.{◌≡◌, IfOk, codes};
 ghost use Rattle.ssa_model.specs.definitions.FieldsV1.{fields_json, is_nothing_inside, member_faults, said_set, IsWritten};
 ghost use Rattle.ssa_model.specs.definitions.Json.{object, same_text};

@@ -1,4 +1,4 @@
-// A set of paths as a tree: each place says whether the path to it is in the set.
+//! A set of paths as a tree: each place says whether the path to it is in the set.
 ghost use Rattle.std.specs.Prelude.{◌≡◌, true, false, None, vec_capacity, IfOk, OnOk, OnErr, IfNone, IfSome};
 ghost use Rattle.std.specs.List.{list_any};
 ghost use Rattle.ssa_model.specs.definitions.Path.{under};

@@ -1,4 +1,4 @@
-// The lists of what the value of a record tells of a body.
+//! The lists of what the value of a record tells of a body.
 ghost use Rattle.std.specs.Prelude.{◌≡◌, Some, false, IfOk, MatchOption, codes};
 ghost use Rattle.ssa_json.specs.Readings.{readings};
 ghost use Rattle.ssa_json.specs.View.{members_view};

@@ -1,4 +1,4 @@
-// What the value of a record tells of a body.
+//! What the value of a record tells of a body.
 ghost use Rattle.std.specs.Prelude.{◌≡◌, true, false, Some, IfOk, MatchOption, codes};
 ghost use Rattle.ssa_json.specs.Readings.{readings};
 ghost use Rattle.ssa_json.specs.View.{view, members_view};

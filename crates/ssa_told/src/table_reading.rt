@@ -1,4 +1,4 @@
-// What the value of a record tells of a table.
+//! What the value of a record tells of a table.
 ghost use Rattle.std.specs.Prelude.{◌≡◌, ◌&&◌, Some, false, IfOk, MatchOption, codes};
 ghost use Rattle.ssa_json.specs.Readings.{readings};
 ghost use Rattle.ssa_json.specs.View.{view, members_view};

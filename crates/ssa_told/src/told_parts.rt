@@ -1,4 +1,4 @@
-// Paths, sets, operations, moments and places, as they stand in the value of a record.
+//! Paths, sets, operations, moments and places, as they stand in the value of a record.
 ghost use Rattle.std.specs.Prelude.{Some, IfOk, codes};
 ghost use Rattle.ssa_json.specs.Readings.{readings};
 ghost use Rattle.ssa_json.specs.View.{view, members_view};

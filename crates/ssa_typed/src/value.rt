@@ -1,4 +1,4 @@
-//! The values of trees.
+//! The value that a tree shows.
 ghost use Rattle.std.specs.Prelude.{◌≡◌, true, IfOk, OnErr, OnOk};
 ghost use Rattle.ssa_json.specs.View.{view, items_view, members_view};
 ghost use Rattle.ssa_path.specs.Children.{elements, rises};
