@@ -1,4 +1,4 @@
-//! Commands of a session.
+//! What a line asks of a bench: a change, a move or a look.
 ghost use Rattle.std.specs.Prelude.{◌≡◌};
 
 use crate::change;

@@ -1,4 +1,4 @@
-// Which JSON objects are commands, by their members.
+//! Which JSON objects are commands, by their members.
 ghost use Rattle.std.specs.Prelude.{◌≡◌, ◌||◌, not, Some, None, MatchOption, is_some, option_and_then};
 ghost use Rattle.std.specs.List.{list_all};
 ghost use Rattle.ssa_json.specs.View.{view, members_view};

@@ -1,4 +1,4 @@
-// The texts of the faults of managers' entries.
+//! The texts of the faults of managers' entries.
 ghost use Rattle.std.specs.Prelude.{◌≡◌, ◌++◌, OnOk};
 ghost use Rattle.ssa_model.specs.definitions.Json.{compact};
 ghost use Rattle.ssa_model.specs.definitions.GivenEntries.{absent_path};

@@ -1,4 +1,4 @@
-// The texts of faults.
+//! The line of each refusal, with its path or conflict.
 ghost use Rattle.std.specs.Prelude.{◌≡◌, ◌++◌, IfOk, OnOk};
 ghost use Rattle.ssa_model.specs.definitions.Json.{compact};
 ghost use Rattle.ssa_model.specs.definitions.Answers as model;

@@ -16,7 +16,6 @@ use Rattle.ssa_model.specs.definitions.Carry.{carry}
 use Rattle.ssa_model.specs.definitions.Kind.{Kind}
 use Rattle.ssa_model.specs.definitions.Record.{Record, record_of}
 use Rattle.ssa_model.proofs.RecordTakes.{record_leads}
-use Rattle.ssa_typed.specs.Differences.{IsComparison}
 use Rattle.ssa_merge.specs.Plans.{body_after, changed_state, IsChange, IsChanged}
 use Rattle.ssa_merge.specs.TableChanges.{changed_table, LeadsTo}
 use Rattle.ssa_merge.specs.declared.change.Change.{Change}
@@ -137,11 +136,6 @@ led-by kind d before after is from to order =
 pub leads-itself : {before : State} {change : Change} {after : State} → IsChange before change after
     → LeadsTo before.table change.table (changed_table change.table before.table)
 leads-itself {before = before} {change = change} is = subst (LeadsTo before.table change.table) (sym is.table_leads.leads) is.table_leads
-
--- what a change tells of the bodies is how the one that it makes differs
-pub compares-itself : {before : State} {change : Change} {after : State} → IsChange before change after
-    → IsComparison before.body (body_after change.body change.comparison.removed before.body) change.comparison
-compares-itself {before = before} {change = change} is = subst (λ b. IsComparison before.body b change.comparison) (sym is.body_is) is.comparison_is
 
 module _ (bench : Bench) (word : Text) (label : Label) where
   -- a change that is kept to, under a label with a manager's name, is the answer

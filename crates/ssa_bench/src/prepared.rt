@@ -5,13 +5,12 @@ ghost use Rattle.ssa_model.specs.definitions.Record.{record_of};
 ghost use Rattle.ssa_model.specs.definitions.RecordReading.{HasReadPaths};
 ghost use Rattle.ssa_model.specs.definitions.Valid.{IsValidState, KeepsOrder};
 ghost use Rattle.ssa_json.specs.Readings.{readings};
-ghost use Rattle.ssa_merge.specs.Plans.{body_after, changed_state, CanStand};
+ghost use Rattle.ssa_merge.specs.Plans.{changed_state, CanStand};
 ghost use Rattle.ssa_merge.specs.States.{state_view};
 ghost use Rattle.ssa_merge.specs.TableChanges.{changed_table, LeadsTo};
 ghost use Rattle.ssa_turn.specs.TablesBack.{HasTableBack};
 ghost use Rattle.ssa_turn_state.specs.States.{HasStateRoom, state_steps};
 ghost use Rattle.ssa_bench.specs.Benches.{changed_view, changed_by};
-ghost use Rattle.ssa_typed.specs.Differences.{IsComparison};
 
 use ssa_merge::change::Change;
 use ssa_merge::state::State;
@@ -67,7 +66,6 @@ pub(crate) fn accepted(
 ) -> Result<Prepared, AllocError>
     requires valid { (kind : Kind) × IsValidState kind (state_view state.now) × IsValidState kind (changed_state (state_view state.now) change.body change.comparison.removed change.table) }
     requires stands { CanStand change.body change.comparison.removed state.now.body }
-    requires compared { IsComparison state.now.body (body_after change.body change.comparison.removed state.now.body) change.comparison }
     requires read { HasReadPaths readings (state_view state.now).body }
     requires leads { LeadsTo (state_view state.now).table change.table (changed_table change.table (state_view state.now).table) }
     requires order { KeepsOrder (state_view state.now).table (changed_table change.table (state_view state.now).table) }
@@ -84,7 +82,7 @@ pub(crate) fn accepted(
     } = change;
     table.new_sets_are_read();
     let managers = table.managers();
-    let delta = StateDelta::of_change(alloc, state, body, &comparison, table)?;
+    let delta = StateDelta::of_change(alloc, state, body, &comparison.removed, table)?;
     let changed = Changed {
         added: comparison.added,
         modified: comparison.modified,

@@ -1,4 +1,4 @@
-//! Reads JSON text.
+//! A value of JSON text, read straight or by `serde_json`.
 ghost use Rattle.std.specs.Prelude.{◌≡◌, ◌<◌, length};
 ghost use Rattle.serde_json.specs.View.{view as data_view, items_view as data_items, members_view as data_members};
 ghost use Rattle.ssa_json.specs.View.{view, items_view, members_view};

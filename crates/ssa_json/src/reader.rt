@@ -1,4 +1,4 @@
-// A `std` reader as a source.
+//! A `std` reader as a source.
 ghost use Rattle.std.specs.Prelude.{◌≡◌, ℕ, ◌<◌, ◌^◌, ◌-◌, ◌+◌, if◌then◌else◌, ◌&&◌, is_ok, Some, [], length, false, IsOk, OnOk, IsErr, OnSome, IsTrue, nat_eq};
 ghost use Rattle.std.specs.Io.KnownBytes.{Keeps, IsAtEnd, prepend_known};
 ghost use Rattle.ssa_json.specs.Devices.{is_fault};

@@ -1,4 +1,4 @@
-// Reads and writes that go on where a signal has interrupted them.
+//! Reads and writes that go on where a signal has interrupted them.
 ghost use Rattle.std.specs.Prelude.{◌≡◌, ◌<◌, IfOk, OnErr, length, take};
 ghost use Rattle.std.specs.Io.{ReadsAtMost, WritesAtMost};
 ghost use Rattle.std.specs.Io.KnownBytes.{Appends, Consumes, IsAtEnd, Keeps};

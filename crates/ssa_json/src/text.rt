@@ -1,4 +1,4 @@
-//! Texts by their bytes.
+//! Comparing texts by their bytes.
 ghost use Rattle.std.specs.Prelude.{◌≡◌};
 ghost use Rattle.ssa_model.specs.definitions.Json.{same_text};
 

@@ -1,4 +1,4 @@
-// What was read of the objects and lists of a text that have not ended.
+//! What was read of the objects and lists of a text that have not ended.
 ghost use Rattle.std.specs.Prelude.{◌≡◌, ◌≤◌, [], ◌++◌, length, take, drop, OnOk};
 
 use crate::value::Json;

@@ -1,4 +1,4 @@
-// Appends JSON text, piece by piece.
+//! Appends JSON text, piece by piece.
 ghost use Rattle.std.specs.Prelude.{◌≡◌, ◌++◌, OnOk, map, string_bytes};
 ghost use Rattle.ssa_model.specs.definitions.Json.{compact};
 ghost use Rattle.ssa_model.specs.definitions.Entries.{text_json};

@@ -1,4 +1,4 @@
-// Writes a line to a sink.
+//! Writes a line to a sink.
 ghost use Rattle.std.specs.Prelude.{◌≡◌, ◌++◌, ◌∷◌, [], OnOk, OnErr, true};
 ghost use Rattle.std.specs.Io.KnownBytes.{Appends};
 ghost use Rattle.ssa_json.specs.Devices.{AppendsPart};

@@ -1,4 +1,4 @@
-// Texts whose bytes stand in the value itself.
+//! Texts whose bytes stand in the value itself.
 ghost use Rattle.std.specs.Prelude.{IsUtf8, ◌≤◌, take};
 
 use crate::words::{are_eight_same, held};

@@ -1,4 +1,4 @@
-// What a command takes from the managers that own it.
+//! What a command takes from the managers that own it.
 ghost use Rattle.std.specs.Prelude.{◌≡◌, IfOk};
 ghost use Rattle.ssa_model.specs.definitions.PathMap.{is_empty, minus};
 

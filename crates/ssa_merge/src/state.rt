@@ -1,4 +1,4 @@
-//! States of an object.
+//! A state of an object: its body and its managers.
 ghost use Rattle.std.specs.Prelude.{◌≡◌, IfOk};
 ghost use Rattle.ssa_merge.specs.States.{state_view};
 

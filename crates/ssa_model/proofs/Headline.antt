@@ -183,9 +183,6 @@ positive n h = grind (arith, nat_tests)
 ahead : (n m : ℕ) → 0 < n → n ≤ m → (m - (n - 1) == 0) ≡ false
 ahead n m h le = grind (arith, nat_tests)
 
-one_ahead : (n m : ℕ) → (m - n) ≡ 1 → (m - (n + 1)) + 1 ≡ 1
-one_ahead n m h = omega (arith, h)
-
 -- undo of a history with one state more, whose oldest is forgotten where there are too many
 abbrev Restored : Bench → Timeline → Type 0
 Restored bench t = IsRestored bench (answer (with_timeline bench t) undo)

@@ -21,6 +21,7 @@ use Rattle.ssa_model.proofs.RisingMembers.{missing-below}
 use Rattle.ssa_model.proofs.RisingNames.{apart-less, before, do_rise, rest-rise, rise-on}
 use Rattle.ssa_model.proofs.Tables.{same_text-true, text-itself}
 use Rattle.ssa_model.proofs.Basics.{lower}
+use Rattle.ssa_model.proofs.Fitting.{some_there}
 
 -- ---- members that rise
 
@@ -50,10 +51,6 @@ before-found n m k (kind_field l j fs) h is =
       | true ↦ λ t _. ap (before n) (same_text-true m l t) ∙ first_so _ _ h
       | false ↦ λ t is. before-found n m k fs (second_so _ _ h) is
     ] refl is
-
-pub there-is : {X : Type 0} (o : Option X) → is_some o ≡ true → (x : X) × (o ≡ Some x)
-there-is None h = absurd (true≢false (sym h))
-there-is (Some x) h = (x, refl)
 
 -- ---- fields
 
@@ -87,7 +84,7 @@ module _ (b : Body) (p : Path) where
     there = λ n j is. h.there n j (later-kind n m j k fs up is) ∙ ap is_some (other n (none-before n m j fs up is));
     shows = λ n j w is found. h.shows n j w (later-kind n m j k fs up is) (other n (none-before n m j fs up is) ∙ found);
     known = λ n some.
-        let w = there-is (member_of n ms) some in
+        let w = some_there (member_of n ms) some in
         let apart = behind-apart n m w.0 ms below rise w.1 in
         sym (ap (λ t. is_some (if t then Some k else kind_of n fs)) apart) ∙ h.known n (ap is_some (other n apart) ∙ some);
   }
@@ -120,7 +117,7 @@ module _ (b : Body) (p : Path) where
           let one = h.known m (ap (λ t. is_some (if t then Some w else member_of m ms)) (text-itself m)) in
           elim (same_text m n) as (λ t. same_text m n ≡ t → is_some (if t then Some k else kind_of m fs) ≡ true → before n m ≡ true) [
             | true ↦ λ t _. absurd (true≢false (sym (text-itself n) ∙ ap (same_text n) (sym (same_text-true m n t)) ∙ apart))
-            | false ↦ λ t one. let j = there-is (kind_of m fs) one in before-found n m j.0 fs up j.1
+            | false ↦ λ t one. let j = some_there (kind_of m fs) one in before-found n m j.0 fs up j.1
           ] refl one
 
       first : (n : Text) (k : Kind) (fs : Fields) (ms : Members) (v : Json) → is_before_all n fs ≡ true → kind_of n (kind_field n k fs) ≡ Some k

@@ -29,7 +29,8 @@ use Rattle.ssa_model.proofs.ReachedFits.{own-content}
 use Rattle.ssa_model.proofs.Reaching.{Standing, level, member_level, item_at, reached, reached-push, content_at, found-field, found-entry, object-fields}
 use Rattle.ssa_model.proofs.RisingMembers.{rising_is_distinct}
 use Rattle.ssa_model.proofs.RisingNames.{before, do_rise, rest-rise}
-use Rattle.ssa_model.proofs.ShownMembers.{AreShown, fields-shown, entries-shown, found-rises, there-is}
+use Rattle.ssa_model.proofs.Fitting.{some_there}
+use Rattle.ssa_model.proofs.ShownMembers.{AreShown, fields-shown, entries-shown, found-rises}
 use Rattle.ssa_model.proofs.ShownNames.{name_of, name-is, names-there, turned}
 use Rattle.ssa_model.proofs.Tables.{element-itself}
 use Rattle.ssa_model.proofs.Tests.{holds}
@@ -145,7 +146,7 @@ module _ (kind : Kind) (v : Json) (b : Body) (tells : (p : Path) → get b p ≡
     fields-are rise each = record {
       there = λ n k own. there-at (p ++ field n ∷ []) ∙ ap (λ o. is_some (content_at o)) (reach n k own) ∙ member-there k (member_of n ms) (λ w found. fit n k w own found);
       shows = λ n k w own found. each n k own (p ++ field n ∷ []) w (reach n k own ∙ ap (option_and_then (λ w. Some (of_kind k, w))) found) (fit n k w own found) (found-rises n w ms rise found);
-      known = λ n some. let w = there-is (member_of n ms) some in ap is_some (found-field fs ms n w.0 fits w.1).1.0;
+      known = λ n some. let w = some_there (member_of n ms) some in ap is_some (found-field fs ms n w.0 fits w.1).1.0;
     }
 
   record-shown : (fs : Fields) → are_ordered fs ≡ true → OfEach IsShown fs → IsShown (record_of fs)

@@ -4,6 +4,7 @@ use Rattle.std.proofs.Common.{◌≡◌, ℕ, ◌+◌, List, [], ◌∷◌, Bool
 use Rattle.std.proofs.lemmas.Bool.{and_from, and_parts}
 use Rattle.std.specs.List.{list_any, list_all, cons_option}
 use Rattle.std.specs.Prelude.{if◌then◌else◌}
+use Rattle.ssa_model.proofs.Basics.{not_true}
 use Rattle.ssa_model.specs.definitions.Json.{Json}
 use Rattle.ssa_model.specs.definitions.Kind.{Kind}
 use Rattle.ssa_model.specs.definitions.Parts.{Subresource, main, status, same_part}
@@ -212,10 +213,6 @@ main-move bench label v w a none =
 
 -- ---- in a format
 
-not-false : (b : Bool) → not b ≡ true → b ≡ false
-not-false false h = refl
-not-false true h = absurd cc
-
 -- what a format can tell of a move it can tell of its line
 pub told-line : (f : Format) (bench : Bench) (label : Label) (v w : State)
     → can_tell_label f label ≡ true → can_tell_state f v ≡ true → can_tell_state f w ≡ true → can_tell_line f (record_line bench label v w) ≡ true
@@ -234,4 +231,4 @@ line-told f bench label v w a told = by (tells_parts f) a told
     by : (all : Bool) → (all || is_main_state v) ≡ true → (all || not (line_tells_subresource (record_line bench label v w))) ≡ true
         → ((all || is_main_label label) ≡ true) × ((all || is_main_state w) ≡ true)
     by true a told = (refl, refl)
-    by false a told = main-move bench label v w a (not-false (line_tells_subresource (record_line bench label v w)) told)
+    by false a told = main-move bench label v w a (not_true (line_tells_subresource (record_line bench label v w)) told)

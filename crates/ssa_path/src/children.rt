@@ -1,4 +1,4 @@
-// Children under elements that rise.
+//! Children under elements that rise.
 ghost use Rattle.std.specs.Prelude.{◌≡◌, true, None, drop, IfNone, IfSome};
 ghost use Rattle.std.specs.Option.{option_copied};
 ghost use Rattle.ssa_path.specs.Children.{child_at, elements, heads_order, rises, IsChildAt, IsSearchResult};

@@ -1,4 +1,4 @@
-// Two sets of paths put together, by one walk over both tries, or by a search for each of few children among many others.
+//! Two sets of paths put together, by one walk over both tries, or by a search for each of few children among many others.
 ghost use Rattle.std.specs.Prelude.{◌≡◌, [], true, false, IfOk, OnOk, OnErr};
 ghost use Rattle.std.specs.Bool.{OnTrue};
 ghost use Rattle.ssa_path.specs.Children.{elements, rises};

@@ -1,4 +1,4 @@
-// One step of a path.
+//! One step of a path.
 ghost use Rattle.std.specs.Prelude.{◌≡◌, IfOk};
 ghost use Rattle.ssa_model.specs.definitions.Path.{element_cmp, is_item_element, same_element};
 ghost use Rattle.ssa_path.specs.OwnText.{OwnTextsAreRead};

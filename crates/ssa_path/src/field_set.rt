@@ -1,4 +1,4 @@
-// Sets of paths.
+//! Sets of paths.
 ghost use Rattle.std.specs.Prelude.{◌≡◌, ◌-◌, ◌^◌, true, not, min, IfOk, OnOk, OnErr};
 ghost use Rattle.ssa_model.specs.definitions.Path.{is_key_field, same_path};
 ghost use Rattle.ssa_model.specs.definitions.PathMap.{empty, has, has_at_or_above, has_at_or_below, insert, is_empty, minus, same_set, set_of, size, union, listed};

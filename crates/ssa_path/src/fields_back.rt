@@ -1,4 +1,4 @@
-// Sets of paths read back from what they are written as.
+//! Sets of paths read back from what they are written as.
 ghost use Rattle.std.specs.Prelude.{◌≡◌, true};
 ghost use Rattle.ssa_model.specs.definitions.Path.{key_members};
 ghost use Rattle.ssa_json.specs.View.{scalar_view};

@@ -1,4 +1,4 @@
-// Sets of paths read from FieldsV1.
+//! Sets of paths read from FieldsV1.
 ghost use Rattle.std.specs.Prelude.{◌≡◌, IfOk, codes};
 ghost use Rattle.ssa_model.specs.definitions.FieldsV1.{fields_json, is_nothing_inside, member_faults, said_set, IsWritten};
 ghost use Rattle.ssa_model.specs.definitions.Json.{object, same_text};
@@ -28,7 +28,21 @@ impl FieldSet {
         ensures said { IfOk result (λ s. s ≡ said_set json_reading (view value.now)) }
     {
         let mut room = ReadingRoom::new(alloc);
-        let root = read_place(alloc, &mut room, value)?;
+        FieldSet::from_fields_v1_in(alloc, &mut room, value)
+    }
+
+    /// Reads a value as [`from_fields_v1`](FieldSet::from_fields_v1) does, in room that is kept from one set to the next.
+    pub fn from_fields_v1_in(
+        alloc: Global,
+        room: &mut ReadingRoom,
+        value: &Json,
+    ) -> Result<FieldSet, ElemFault>
+        ensures answers { ReadsFields result (view value.now) }
+        ensures written { IfOk result (λ s. IsWritten s (view value.now)) }
+        ensures back { IfOk result (λ s. fields_json s ≡ view value.now) }
+        ensures said { IfOk result (λ s. s ≡ said_set json_reading (view value.now)) }
+    {
+        let root = read_place(alloc, room, value)?;
         Ok(FieldSet::from_root(root))
     }
 }

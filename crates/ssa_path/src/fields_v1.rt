@@ -1,4 +1,4 @@
-// Sets of paths written as FieldsV1.
+//! Sets of paths written as FieldsV1.
 ghost use Rattle.std.specs.Prelude.{◌≡◌, true, IfOk, OnOk};
 ghost use Rattle.ssa_model.specs.definitions.FieldsV1.{fields_json, AreCanonical, IsWritten};
 ghost use Rattle.ssa_model.specs.definitions.Json.{object};

@@ -1,4 +1,4 @@
-// The key fields of items, taken out of a trie where they stand.
+//! The key fields of items, taken out of a trie where they stand.
 ghost use Rattle.std.specs.Prelude.{◌≡◌, [], ◌&&◌, true, not};
 ghost use Rattle.ssa_model.specs.definitions.Path.{field, key, names_key};
 ghost use Rattle.ssa_path.specs.KeyFields.{keys_in, IsWithoutKeyFields};

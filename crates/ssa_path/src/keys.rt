@@ -1,4 +1,4 @@
-// The key fields that name an item of a list.
+//! The key fields that name an item of a list.
 ghost use Rattle.std.specs.Prelude.{◌≡◌, true, IfOk};
 ghost use Rattle.std.specs.Cmp.Lexicographic.{pointwise};
 ghost use Rattle.ssa_members.specs.Texts.{text_bytes};

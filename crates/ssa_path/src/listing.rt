@@ -1,4 +1,4 @@
-// The paths of a trie, one after another, as ways of references to its elements.
+//! The paths of a trie, one after another, as ways of references to its elements.
 ghost use Rattle.std.specs.Prelude.{◌≡◌, ◌++◌, ◌^◌, ◌-◌, true, length, min, IfOk, OnOk};
 ghost use Rattle.ssa_path.specs.Listing.{behind, paths_rise, way_view, ways_view, IsListed};
 ghost use Rattle.ssa_path.specs.Trie.{here_path, is_trie, paths};

@@ -1,4 +1,4 @@
-// The order of elements' texts by their bytes. The texts themselves are never made.
+//! The order of elements' texts by their bytes. The texts themselves are never made.
 ghost use Rattle.std.specs.Prelude.{◌≡◌, ◌≤◌, ◌<◌, ◌+◌, ◌++◌, [], ◌∷◌, false, length, take, drop, IfSome, Some};
 ghost use Rattle.std.specs.Ordering.{nat_cmp};
 ghost use Rattle.std.specs.Cmp.Lexicographic.{slice_cmp};

@@ -1,4 +1,4 @@
-// The parts of an object: what stands at and below its root's field `status`, and all else.
+//! The parts of an object: what stands at and below its root's field `status`, and all else.
 ghost use Rattle.std.specs.Prelude.{◌≡◌, [], ◌∷◌, true, option_copied};
 ghost use Rattle.ssa_model.specs.definitions.Parts.{is_path_of, same_part, status};
 ghost use Rattle.ssa_path.specs.Subresources.{are_in_part, in_part, other_part, part_view, subresource_text, IsPartOf, LiesIn};

@@ -1,4 +1,4 @@
-// The member `subresource` of entries, conflicts, labels and records, where a part is reached through one.
+//! The member `subresource` of entries, conflicts, labels and records, where a part is reached through one.
 ghost use Rattle.std.specs.Prelude.{◌≡◌, ◌++◌, OnOk, codes, option_map};
 ghost use Rattle.ssa_model.specs.definitions.Json.{member_of};
 ghost use Rattle.ssa_json.specs.View.{members_view, view};

@@ -1,4 +1,4 @@
-// What each of two sets of paths has alone, by one walk over both tries.
+//! What each of two sets of paths has alone, by one walk over both tries.
 ghost use Rattle.std.specs.Prelude.{◌≡◌, ◌&&◌, true, IfOk, OnOk};
 ghost use Rattle.ssa_path.specs.View.{element_view};
 ghost use Rattle.ssa_path.specs.Trie.{is_trie, is_filled};

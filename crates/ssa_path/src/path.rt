@@ -1,4 +1,4 @@
-// Paths, ordered element by element.
+//! Paths, ordered element by element.
 ghost use Rattle.std.specs.Prelude.{◌≡◌, IfOk};
 ghost use Rattle.ssa_model.specs.definitions.Path.{path_cmp};
 ghost use Rattle.ssa_path.specs.Listing.{way_view};

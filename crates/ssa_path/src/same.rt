@@ -1,4 +1,4 @@
-// Whether two tries have the same paths.
+//! Whether two tries have the same paths.
 ghost use Rattle.std.specs.Prelude.{◌≡◌, true};
 ghost use Rattle.std.specs.Cmp.Lexicographic.{pointwise};
 ghost use Rattle.ssa_model.specs.definitions.Path.{same_path};

@@ -1,4 +1,4 @@
-// A set of paths that several hold at once.
+//! A set of paths that several hold at once.
 ghost use Rattle.std.specs.Prelude.{◌≡◌, true, IfOk};
 ghost use Rattle.ssa_model.specs.definitions.PathMap.{listed, minus};
 ghost use Rattle.ssa_path.specs.Trie.{is_trie, paths};

@@ -1,5 +1,5 @@
-// Paths taken out of a set where they stand, at or below which another set has a path: by one walk over both tries, or by a
-// search for each of few children among many others.
+//! Paths taken out of a set where they stand, at or below which another set has a path: by one walk over both tries, or by a
+//! search for each of few children among many others.
 ghost use Rattle.std.specs.Prelude.{◌≡◌, not, true};
 ghost use Rattle.ssa_path.specs.Children.{elements, rises};
 ghost use Rattle.ssa_path.specs.Trie.{is_trie, is_filled, are_filled_tries};

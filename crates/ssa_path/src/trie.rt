@@ -1,4 +1,4 @@
-// A set of paths as a tree: each place says whether the path to it is in the set.
+//! A set of paths as a tree: each place says whether the path to it is in the set.
 ghost use Rattle.std.specs.Prelude.{◌≡◌, true, false, None, vec_capacity, IfOk, OnOk, OnErr, IfNone, IfSome};
 ghost use Rattle.std.specs.List.{list_any};
 ghost use Rattle.ssa_model.specs.definitions.Path.{under};
@@ -103,31 +103,6 @@ fn put_child(
     let own = element.copy(alloc)?;
     below.insert(place, (own, child))?;
     Ok(())
-}
-
-/// Adds the paths of a trie below an element, unless there are none.
-///
-/// On `Err` the children are as they were.
-pub fn gather(
-    alloc: Global,
-    below: &mut Vec<(Elem, Trie)>,
-    element: &Elem,
-    child: Trie,
-) -> Result<(), AllocError>
-    requires rise { rises (elements below.old.items) ≡ true }
-    requires tries { are_filled_tries below.old.items ≡ true }
-    requires absent { child_at (element_view element.now) below.old.items ≡ None }
-    requires trie { is_trie child ≡ true }
-    ensures ok { OnOk result (IsGathered below.old.items (element_view element.now) child below.new.items) }
-    ensures err { OnErr result (below.new.items ≡ below.old.items) }
-{
-    if !child.has_paths() {
-        return Ok(());
-    }
-    match search(below, element) {
-        Err(place) => put_child(alloc, below, place, element, child),
-        Ok(_) => unreachable!(),
-    }
 }
 
 // Whether the child has some path.

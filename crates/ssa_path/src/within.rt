@@ -1,4 +1,4 @@
-// Whether one set of paths lies within another, and whether it shares one with it.
+//! Whether one set of paths lies within another, and whether it shares one with it.
 ghost use Rattle.std.specs.Prelude.{◌≡◌, true};
 ghost use Rattle.std.specs.Bool.{MatchBool};
 ghost use Rattle.std.specs.Option.{option_copied};

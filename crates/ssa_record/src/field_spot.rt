@@ -1,4 +1,4 @@
-// The way to a field of a record or an entry of a Dict.
+//! The way to a field of a record or an entry of a Dict.
 ghost use Rattle.std.specs.Prelude.{◌≡◌, true, Some, IfOk, IfSome};
 ghost use Rattle.ssa_model.specs.definitions.Fitting.{of_kind, place_below};
 ghost use Rattle.ssa_path.specs.View.{element_view, path_view};

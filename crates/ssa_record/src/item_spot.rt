@@ -1,4 +1,4 @@
-// The way to a field of an item of a map list.
+//! The way to a field of an item of a map list.
 ghost use Rattle.std.specs.Prelude.{◌≡◌, true, IfOk, IfSome};
 ghost use Rattle.ssa_model.specs.definitions.Path.{field, key, names_key};
 ghost use Rattle.ssa_path.specs.Keys.{members_view};

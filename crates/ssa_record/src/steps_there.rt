@@ -63,17 +63,17 @@ pub fn steps_there(
     schema: &Schema,
     body: &Body,
     told: &ToldPlaces<'_>,
-    path: &mut Vec<Elem>,
+    mut path: Vec<Elem>,
     spot: &Spot<'_>,
 ) -> Result<Option<BodySteps>, AllocError>
     requires lawful { is_lawful schema.now.kind ≡ true }
     requires valid { IsValidBody schema.now.kind body.now }
     requires all { AllTouched (maps_of told.now) }
-    requires spot { IsSpot (maps_of told.now) schema.now.kind body.now (path_view path.old.items) spot.now }
-    requires inner { under (path_view path.old.items) metadata_path ≡ false }
+    requires spot { IsSpot (maps_of told.now) schema.now.kind body.now (path_view path.items) spot.now }
+    requires inner { under (path_view path.items) metadata_path ≡ false }
     ensures { IfOk result (λ o. AreSteps (maps_of told.now) schema.now.kind body.now o) }
 {
-    let Some(value) = led_value(alloc, told, spot.touched, path, spot.node)? else {
+    let Some(value) = led_value(alloc, told, spot.touched, &mut path, spot.node)? else {
         return Ok(None);
     };
     let Some(after) = tree_at(alloc, spot.kind, value)? else {

@@ -113,7 +113,7 @@ pub fn told_steps(
     let mut path = Vec::new(alloc);
     let spot = spot_from(alloc, &places, &mut path, root)?;
     if is_inner(&path) {
-        steps_there(alloc, schema, body, &places, &mut path, &spot)
+        steps_there(alloc, schema, body, &places, path, &spot)
     } else {
         steps_of_whole(alloc, schema, body, &places)
     }

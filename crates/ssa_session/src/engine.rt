@@ -1,4 +1,4 @@
-// The session: reads lines, has each answered, and writes the replies.
+//! The session: reads lines, has each answered, and writes the replies.
 ghost use Rattle.std.specs.Prelude.{◌≡◌, ◌<◌, ℕ, List, true, OnOk, OnErr, OnSome, Err};
 ghost use Rattle.std.specs.Io.KnownBytes.{IsAtEnd, Appends};
 ghost use Rattle.ssa_json.specs.Devices.{AppendsPart};

@@ -1,4 +1,4 @@
-//! Replies as text.
+//! The texts of replies, made for each answer of a bench.
 ghost use Rattle.std.specs.Prelude.{◌≡◌, ◌++◌, IfOk, OnOk, codes};
 ghost use Rattle.ssa_model.specs.definitions.Json.{compact};
 ghost use Rattle.ssa_model.specs.definitions.Answers as model;

@@ -1,4 +1,4 @@
-// Tests of names of members, short and long, and of the order in which they stand.
+//! Tests of names of members, short and long, and of the order in which they stand.
 use crate::support::{printed, value};
 use ssa_json::value::{Json, Scalar};
 use ssa_members::{Members, Name, SmallText};

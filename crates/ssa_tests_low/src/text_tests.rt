@@ -1,4 +1,4 @@
-// Tests of texts that stand in the value itself where they are short.
+//! Tests of texts that stand in the value itself where they are short.
 use ssa_members::words::{eight_at, four_at};
 use ssa_members::{Name, SmallText};
 use std::alloc::{AllocError, Global};

@@ -1,4 +1,4 @@
-// The lists of what the value of a record tells of a body.
+//! The lists of what the value of a record tells of a body.
 ghost use Rattle.std.specs.Prelude.{◌≡◌, Some, false, IfOk, MatchOption, codes};
 ghost use Rattle.ssa_json.specs.Readings.{readings};
 ghost use Rattle.ssa_json.specs.View.{members_view};
@@ -12,13 +12,18 @@ use crate::body_reading::{read_leaf, read_order, read_put};
 use crate::told::{ToldBody, ToldLeaf, ToldOrder, ToldPut};
 use crate::told_parts::told_path;
 use crate::value_shape::list_of;
+use ssa_json::reading_room::ReadingRoom;
 use ssa_json::value::Json;
 use ssa_members::Members;
 use ssa_path::path::Path;
 use std::alloc::{AllocError, Global};
 
 // The paths of the member `cut`.
-fn told_cut(alloc: Global, members: &Members<Json>) -> Result<Option<Vec<Path>>, AllocError>
+fn told_cut(
+    alloc: Global,
+    room: &mut ReadingRoom,
+    members: &Members<Json>,
+) -> Result<Option<Vec<Path>>, AllocError>
     ensures { IfOk result (λ t. TellsList (is_path readings) (λ p. p) (λ v. path_in readings (Some v)) t
         (member_of (codes "cut") (members_view members.now.entries))) }
 {
@@ -27,7 +32,7 @@ fn told_cut(alloc: Global, members: &Members<Json>) -> Result<Option<Vec<Path>>,
     };
     let mut told = Vec::new(alloc);
     for item in items {
-        let Some(path) = told_path(alloc, item)? else {
+        let Some(path) = told_path(alloc, room, item)? else {
             return Ok(None);
         };
         told.push(path)?;
@@ -36,7 +41,11 @@ fn told_cut(alloc: Global, members: &Members<Json>) -> Result<Option<Vec<Path>>,
 }
 
 // The leaves of the member `leaves`.
-fn told_leaves(alloc: Global, members: &Members<Json>) -> Result<Option<Vec<ToldLeaf>>, AllocError>
+fn told_leaves(
+    alloc: Global,
+    room: &mut ReadingRoom,
+    members: &Members<Json>,
+) -> Result<Option<Vec<ToldLeaf>>, AllocError>
     ensures { IfOk result (λ t. TellsList is_leaf told_leaf (said_leaf readings) t (member_of (codes "leaves") (members_view members.now.entries))) }
 {
     let Some(items) = list_of(members, "leaves") else {
@@ -44,7 +53,7 @@ fn told_leaves(alloc: Global, members: &Members<Json>) -> Result<Option<Vec<Told
     };
     let mut told = Vec::new(alloc);
     for item in items {
-        let Some(leaf) = read_leaf(alloc, item)? else {
+        let Some(leaf) = read_leaf(alloc, room, item)? else {
             return Ok(None);
         };
         told.push(leaf)?;
@@ -53,7 +62,11 @@ fn told_leaves(alloc: Global, members: &Members<Json>) -> Result<Option<Vec<Told
 }
 
 // The orders of the member `order`.
-fn told_orders(alloc: Global, members: &Members<Json>) -> Result<Option<Vec<ToldOrder>>, AllocError>
+fn told_orders(
+    alloc: Global,
+    room: &mut ReadingRoom,
+    members: &Members<Json>,
+) -> Result<Option<Vec<ToldOrder>>, AllocError>
     ensures { IfOk result (λ t. TellsList is_order told_order (order_in readings) t (member_of (codes "order") (members_view members.now.entries))) }
 {
     let Some(items) = list_of(members, "order") else {
@@ -61,7 +74,7 @@ fn told_orders(alloc: Global, members: &Members<Json>) -> Result<Option<Vec<Told
     };
     let mut told = Vec::new(alloc);
     for item in items {
-        let Some(order) = read_order(alloc, item)? else {
+        let Some(order) = read_order(alloc, room, item)? else {
             return Ok(None);
         };
         told.push(order)?;
@@ -70,7 +83,11 @@ fn told_orders(alloc: Global, members: &Members<Json>) -> Result<Option<Vec<Told
 }
 
 // What is put, of the member `put`.
-fn told_puts(alloc: Global, members: &Members<Json>) -> Result<Option<Vec<ToldPut>>, AllocError>
+fn told_puts(
+    alloc: Global,
+    room: &mut ReadingRoom,
+    members: &Members<Json>,
+) -> Result<Option<Vec<ToldPut>>, AllocError>
     ensures { IfOk result (λ t. TellsList (is_put readings) told_put (said_put readings) t (member_of (codes "put") (members_view members.now.entries))) }
 {
     let Some(items) = list_of(members, "put") else {
@@ -78,7 +95,7 @@ fn told_puts(alloc: Global, members: &Members<Json>) -> Result<Option<Vec<ToldPu
     };
     let mut told = Vec::new(alloc);
     for item in items {
-        let Some(put) = read_put(alloc, item)? else {
+        let Some(put) = read_put(alloc, room, item)? else {
             return Ok(None);
         };
         told.push(put)?;
@@ -87,20 +104,24 @@ fn told_puts(alloc: Global, members: &Members<Json>) -> Result<Option<Vec<ToldPu
 }
 
 // What the members tell of a body.
-pub fn body_of(alloc: Global, members: &Members<Json>) -> Result<Option<ToldBody>, AllocError>
+pub fn body_of(
+    alloc: Global,
+    room: &mut ReadingRoom,
+    members: &Members<Json>,
+) -> Result<Option<ToldBody>, AllocError>
     ensures { IfOk result (λ t. MatchOption t (are_body_lists (members_view members.now.entries) ≡ false)
         (λ b. TellsBody b (members_view members.now.entries))) }
 {
-    let Some(cut) = told_cut(alloc, members)? else {
+    let Some(cut) = told_cut(alloc, room, members)? else {
         return Ok(None);
     };
-    let Some(leaves) = told_leaves(alloc, members)? else {
+    let Some(leaves) = told_leaves(alloc, room, members)? else {
         return Ok(None);
     };
-    let Some(order) = told_orders(alloc, members)? else {
+    let Some(order) = told_orders(alloc, room, members)? else {
         return Ok(None);
     };
-    let Some(put) = told_puts(alloc, members)? else {
+    let Some(put) = told_puts(alloc, room, members)? else {
         return Ok(None);
     };
     Ok(Some(ToldBody {

@@ -1,4 +1,4 @@
-// What the value of a record tells of a body.
+//! What the value of a record tells of a body.
 ghost use Rattle.std.specs.Prelude.{◌≡◌, true, false, Some, IfOk, MatchOption, codes};
 ghost use Rattle.ssa_json.specs.Readings.{readings};
 ghost use Rattle.ssa_json.specs.View.{view, members_view};
@@ -11,6 +11,7 @@ ghost use Rattle.ssa_told.specs.Told.{told_leaf, told_order, told_put, said_leaf
 use crate::told::{ToldLeaf, ToldOrder, ToldPut};
 use crate::told_parts::{told_elements, told_path, told_place};
 use crate::value_shape::{list_of, pair_in, triple_in};
+use ssa_json::reading_room::ReadingRoom;
 use ssa_json::value::Json;
 use ssa_path::path::Path;
 use std::alloc::{AllocError, Global};
@@ -19,13 +20,17 @@ use std::collections::BTreeMap;
 // ---- items
 
 // The leaf of a list of a path and a value.
-pub fn read_leaf(alloc: Global, value: &Json) -> Result<Option<ToldLeaf>, AllocError>
+pub fn read_leaf(
+    alloc: Global,
+    room: &mut ReadingRoom,
+    value: &Json,
+) -> Result<Option<ToldLeaf>, AllocError>
     ensures { IfOk result (λ t. Tells is_leaf told_leaf (said_leaf readings) t (Some (view value.now))) }
 {
     let Some((path, content)) = pair_in(value) else {
         return Ok(None);
     };
-    let Some(path) = told_path(alloc, path)? else {
+    let Some(path) = told_path(alloc, room, path)? else {
         return Ok(None);
     };
     let value = content.copy(alloc)?;
@@ -33,16 +38,20 @@ pub fn read_leaf(alloc: Global, value: &Json) -> Result<Option<ToldLeaf>, AllocE
 }
 
 // The order of a list of a path and the items' texts.
-pub fn read_order(alloc: Global, value: &Json) -> Result<Option<ToldOrder>, AllocError>
+pub fn read_order(
+    alloc: Global,
+    room: &mut ReadingRoom,
+    value: &Json,
+) -> Result<Option<ToldOrder>, AllocError>
     ensures { IfOk result (λ t. Tells is_order told_order (order_in readings) t (Some (view value.now))) }
 {
     let Some((path, order)) = pair_in(value) else {
         return Ok(None);
     };
-    let Some(path) = told_path(alloc, path)? else {
+    let Some(path) = told_path(alloc, room, path)? else {
         return Ok(None);
     };
-    let Some(items) = told_elements(alloc, order)? else {
+    let Some(items) = told_elements(alloc, room, order)? else {
         return Ok(None);
     };
     Ok(Some(ToldOrder { path, items }))
@@ -51,13 +60,14 @@ pub fn read_order(alloc: Global, value: &Json) -> Result<Option<ToldOrder>, Allo
 // What is put at a path, with a place.
 fn put_of(
     alloc: Global,
+    room: &mut ReadingRoom,
     path: &Json,
     value: &Json,
     place: Option<usize>,
 ) -> Result<Option<ToldPut>, AllocError>
     ensures { IfOk result (λ t. Tells (is_path readings) told_put (λ v. (path_in readings (Some v), (view value.now, place))) t (Some (view path.now))) }
 {
-    let Some(path) = told_path(alloc, path)? else {
+    let Some(path) = told_path(alloc, room, path)? else {
         return Ok(None);
     };
     let value = value.copy(alloc)?;
@@ -65,7 +75,11 @@ fn put_of(
 }
 
 // What is put, of a list of a path, a value and a place.
-fn read_placed(alloc: Global, value: &Json) -> Result<Option<ToldPut>, AllocError>
+fn read_placed(
+    alloc: Global,
+    room: &mut ReadingRoom,
+    value: &Json,
+) -> Result<Option<ToldPut>, AllocError>
     ensures { IfOk result (λ t. Tells is_placed told_put (said_put readings) t (Some (view value.now))) }
 {
     let Some((path, content, place)) = triple_in(value) else {
@@ -74,15 +88,19 @@ fn read_placed(alloc: Global, value: &Json) -> Result<Option<ToldPut>, AllocErro
     let Some(place) = told_place(place) else {
         return Ok(None);
     };
-    put_of(alloc, path, content, Some(place))
+    put_of(alloc, room, path, content, Some(place))
 }
 
 // What is put, with a place or without.
-pub fn read_put(alloc: Global, value: &Json) -> Result<Option<ToldPut>, AllocError>
+pub fn read_put(
+    alloc: Global,
+    room: &mut ReadingRoom,
+    value: &Json,
+) -> Result<Option<ToldPut>, AllocError>
     ensures { IfOk result (λ t. Tells (is_put readings) told_put (said_put readings) t (Some (view value.now))) }
 {
     match pair_in(value) {
-        Some((path, content)) => put_of(alloc, path, content, None),
-        None => read_placed(alloc, value),
+        Some((path, content)) => put_of(alloc, room, path, content, None),
+        None => read_placed(alloc, room, value),
     }
 }

@@ -1,4 +1,4 @@
-// Managers, as they stand in the value of a record.
+//! Managers, as they stand in the value of a record.
 ghost use Rattle.std.specs.Prelude.{Some, IfOk, codes, option_map};
 ghost use Rattle.ssa_json.specs.View.{view, members_view};
 ghost use Rattle.ssa_merge.specs.Managers.{key_view, operation_view};

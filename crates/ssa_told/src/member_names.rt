@@ -1,4 +1,4 @@
-// The names of the members of a record's value, of the objects in it, and of its line.
+//! The names of the members of a record's value, of the objects in it, and of its line.
 ghost use Rattle.std.specs.Prelude.{◌≡◌};
 ghost use Rattle.ssa_members.specs.Members.{IsRising};
 ghost use Rattle.std.specs.List.{list_any};

@@ -1,4 +1,4 @@
-// What the value of a record tells of a table.
+//! What the value of a record tells of a table.
 ghost use Rattle.std.specs.Prelude.{◌≡◌, ◌&&◌, Some, false, IfOk, MatchOption, codes};
 ghost use Rattle.ssa_json.specs.Readings.{readings};
 ghost use Rattle.ssa_json.specs.View.{view, members_view};
@@ -17,6 +17,7 @@ use crate::told_parts::{moment_at, place_at, set_at};
 use crate::value_shape::{list_of, text_of};
 use ssa_json::members::{find_member, has_member};
 use ssa_json::moment::Moment;
+use ssa_json::reading_room::ReadingRoom;
 use ssa_json::value::Json;
 use ssa_members::Members;
 use ssa_merge::managers::Entry;
@@ -34,17 +35,21 @@ fn moment_if_told(members: &Members<Json>) -> Option<Option<Moment>>
 }
 
 // The change of these members.
-fn change_of(alloc: Global, members: &Members<Json>) -> Result<Option<ToldChange>, AllocError>
+fn change_of(
+    alloc: Global,
+    room: &mut ReadingRoom,
+    members: &Members<Json>,
+) -> Result<Option<ToldChange>, AllocError>
     ensures { IfOk result (λ t. Tells (has_members (change_shape readings)) told_change (change_in readings) t
         (Some (object (members_view members.now.entries)))) }
 {
     if !have_names_of(Shape::Change, members) {
         return Ok(None);
     }
-    let Some(gain) = set_at(alloc, members, "gain")? else {
+    let Some(gain) = set_at(alloc, room, members, "gain")? else {
         return Ok(None);
     };
-    let Some(lose) = set_at(alloc, members, "lose")? else {
+    let Some(lose) = set_at(alloc, room, members, "lose")? else {
         return Ok(None);
     };
     let Some(key) = key_at(alloc, members)? else {
@@ -61,11 +66,15 @@ fn change_of(alloc: Global, members: &Members<Json>) -> Result<Option<ToldChange
     }))
 }
 
-fn read_change(alloc: Global, value: &Json) -> Result<Option<ToldChange>, AllocError>
+fn read_change(
+    alloc: Global,
+    room: &mut ReadingRoom,
+    value: &Json,
+) -> Result<Option<ToldChange>, AllocError>
     ensures { IfOk result (λ t. Tells (has_members (change_shape readings)) told_change (change_in readings) t (Some (view value.now))) }
 {
     match value {
-        Json::Object(members) => change_of(alloc, members),
+        Json::Object(members) => change_of(alloc, room, members),
         Json::List(_) | Json::Scalar(_) => Ok(None),
     }
 }
@@ -79,7 +88,11 @@ fn has_entry_texts(members: &Members<Json>) -> bool
 }
 
 // The entry of these members. Its `apiVersion` and its `fieldsType` may be any texts.
-fn entry_of(alloc: Global, members: &Members<Json>) -> Result<Option<Entry>, AllocError>
+fn entry_of(
+    alloc: Global,
+    room: &mut ReadingRoom,
+    members: &Members<Json>,
+) -> Result<Option<Entry>, AllocError>
     ensures { IfOk result (λ t. Tells (has_members (entry_shape readings)) entry_view entry_in t (Some (object (members_view members.now.entries)))) }
 {
     if !have_names_of(Shape::Entry, members) {
@@ -88,7 +101,7 @@ fn entry_of(alloc: Global, members: &Members<Json>) -> Result<Option<Entry>, All
     if !has_entry_texts(members) {
         return Ok(None);
     }
-    let Some(set) = set_at(alloc, members, "fieldsV1")? else {
+    let Some(set) = set_at(alloc, room, members, "fieldsV1")? else {
         return Ok(None);
     };
     let Some(key) = key_at(alloc, members)? else {
@@ -100,28 +113,40 @@ fn entry_of(alloc: Global, members: &Members<Json>) -> Result<Option<Entry>, All
     Ok(Some(Entry { key, set, at }))
 }
 
-fn read_entry(alloc: Global, value: &Json) -> Result<Option<Entry>, AllocError>
+fn read_entry(
+    alloc: Global,
+    room: &mut ReadingRoom,
+    value: &Json,
+) -> Result<Option<Entry>, AllocError>
     ensures { IfOk result (λ t. Tells (has_members (entry_shape readings)) entry_view entry_in t (Some (view value.now))) }
 {
     match value {
-        Json::Object(members) => entry_of(alloc, members),
+        Json::Object(members) => entry_of(alloc, room, members),
         Json::List(_) | Json::Scalar(_) => Ok(None),
     }
 }
 
 // The entry of the member `entry`.
-fn entry_at(alloc: Global, members: &Members<Json>) -> Result<Option<Entry>, AllocError>
+fn entry_at(
+    alloc: Global,
+    room: &mut ReadingRoom,
+    members: &Members<Json>,
+) -> Result<Option<Entry>, AllocError>
     ensures { IfOk result (λ t. Tells (has_members (entry_shape readings)) entry_view entry_in t
         (member_of (codes "entry") (members_view members.now.entries))) }
 {
     match find_member(members, "entry") {
-        Some(value) => read_entry(alloc, value),
+        Some(value) => read_entry(alloc, room, value),
         None => Ok(None),
     }
 }
 
 // The entry that is here of these members, and its place.
-fn here_of(alloc: Global, members: &Members<Json>) -> Result<Option<ToldHere>, AllocError>
+fn here_of(
+    alloc: Global,
+    room: &mut ReadingRoom,
+    members: &Members<Json>,
+) -> Result<Option<ToldHere>, AllocError>
     ensures { IfOk result (λ t. Tells (has_members (here_shape readings)) told_here (here_in readings) t (Some (object (members_view members.now.entries)))) }
 {
     if !have_names_of(Shape::Here, members) {
@@ -130,17 +155,21 @@ fn here_of(alloc: Global, members: &Members<Json>) -> Result<Option<ToldHere>, A
     let Some(place) = place_at(members) else {
         return Ok(None);
     };
-    let Some(entry) = entry_at(alloc, members)? else {
+    let Some(entry) = entry_at(alloc, room, members)? else {
         return Ok(None);
     };
     Ok(Some(ToldHere { place, entry }))
 }
 
-fn read_here(alloc: Global, value: &Json) -> Result<Option<ToldHere>, AllocError>
+fn read_here(
+    alloc: Global,
+    room: &mut ReadingRoom,
+    value: &Json,
+) -> Result<Option<ToldHere>, AllocError>
     ensures { IfOk result (λ t. Tells (has_members (here_shape readings)) told_here (here_in readings) t (Some (view value.now))) }
 {
     match value {
-        Json::Object(members) => here_of(alloc, members),
+        Json::Object(members) => here_of(alloc, room, members),
         Json::List(_) | Json::Scalar(_) => Ok(None),
     }
 }
@@ -148,6 +177,7 @@ fn read_here(alloc: Global, value: &Json) -> Result<Option<ToldHere>, AllocError
 // The changes of the member `changed`.
 fn told_changes(
     alloc: Global,
+    room: &mut ReadingRoom,
     members: &Members<Json>,
 ) -> Result<Option<Vec<ToldChange>>, AllocError>
     ensures { IfOk result (λ t. TellsList (has_members (change_shape readings)) told_change (change_in readings) t
@@ -158,7 +188,7 @@ fn told_changes(
     };
     let mut told = Vec::new(alloc);
     for item in items {
-        let Some(change) = read_change(alloc, item)? else {
+        let Some(change) = read_change(alloc, room, item)? else {
             return Ok(None);
         };
         told.push(change)?;
@@ -167,7 +197,11 @@ fn told_changes(
 }
 
 // The entries of the member `here`.
-fn told_entries(alloc: Global, members: &Members<Json>) -> Result<Option<Vec<ToldHere>>, AllocError>
+fn told_entries(
+    alloc: Global,
+    room: &mut ReadingRoom,
+    members: &Members<Json>,
+) -> Result<Option<Vec<ToldHere>>, AllocError>
     ensures { IfOk result (λ t. TellsList (has_members (here_shape readings)) told_here (here_in readings) t
         (member_of (codes "here") (members_view members.now.entries))) }
 {
@@ -176,7 +210,7 @@ fn told_entries(alloc: Global, members: &Members<Json>) -> Result<Option<Vec<Tol
     };
     let mut told = Vec::new(alloc);
     for item in items {
-        let Some(here) = read_here(alloc, item)? else {
+        let Some(here) = read_here(alloc, room, item)? else {
             return Ok(None);
         };
         told.push(here)?;
@@ -185,17 +219,21 @@ fn told_entries(alloc: Global, members: &Members<Json>) -> Result<Option<Vec<Tol
 }
 
 // What the members tell of a table.
-pub fn table_of(alloc: Global, members: &Members<Json>) -> Result<Option<ToldTable>, AllocError>
+pub fn table_of(
+    alloc: Global,
+    room: &mut ReadingRoom,
+    members: &Members<Json>,
+) -> Result<Option<ToldTable>, AllocError>
     ensures { IfOk result (λ t. MatchOption t (are_table_lists (members_view members.now.entries) ≡ false)
         (λ a. TellsTable a (members_view members.now.entries))) }
 {
-    let Some(changed) = told_changes(alloc, members)? else {
+    let Some(changed) = told_changes(alloc, room, members)? else {
         return Ok(None);
     };
     let Some(gone) = told_gone(alloc, members)? else {
         return Ok(None);
     };
-    let Some(here) = told_entries(alloc, members)? else {
+    let Some(here) = told_entries(alloc, room, members)? else {
         return Ok(None);
     };
     Ok(Some(ToldTable {

@@ -1,4 +1,4 @@
-// Paths, sets, operations, moments and places, as they stand in the value of a record.
+//! Paths, sets, operations, moments and places, as they stand in the value of a record.
 ghost use Rattle.std.specs.Prelude.{Some, IfOk, codes};
 ghost use Rattle.ssa_json.specs.Readings.{readings};
 ghost use Rattle.ssa_json.specs.View.{view, members_view};
@@ -13,6 +13,7 @@ use crate::path_texts::elements_of_texts;
 use crate::value_shape::are_texts;
 use ssa_json::members::find_member;
 use ssa_json::moment::Moment;
+use ssa_json::reading_room::ReadingRoom;
 use ssa_json::value::{Json, Scalar};
 use ssa_members::Members;
 use ssa_path::element::Elem;
@@ -22,7 +23,11 @@ use ssa_path::path::Path;
 use std::alloc::{AllocError, Global};
 
 // The elements of a path.
-pub fn told_elements(alloc: Global, value: &Json) -> Result<Option<Vec<Elem>>, AllocError>
+pub fn told_elements(
+    alloc: Global,
+    room: &mut ReadingRoom,
+    value: &Json,
+) -> Result<Option<Vec<Elem>>, AllocError>
     ensures { IfOk result (λ t. Tells (is_path readings) (λ es. path_view es.items) (λ v. path_in readings (Some v)) t (Some (view value.now))) }
 {
     let Json::List(items) = value else {
@@ -31,26 +36,34 @@ pub fn told_elements(alloc: Global, value: &Json) -> Result<Option<Vec<Elem>>, A
     if !are_texts(items) {
         return Ok(None);
     }
-    match elements_of_texts(alloc, items) {
+    match elements_of_texts(alloc, room, items) {
         Ok(elements) => Ok(Some(elements)),
         Err(ElemFault::OutOfMemory) => Err(AllocError),
         Err(ElemFault::BadElement | ElemFault::IndexElement | ElemFault::NotCanonical) => Ok(None),
     }
 }
 
-pub fn told_path(alloc: Global, value: &Json) -> Result<Option<Path>, AllocError>
+pub fn told_path(
+    alloc: Global,
+    room: &mut ReadingRoom,
+    value: &Json,
+) -> Result<Option<Path>, AllocError>
     ensures { IfOk result (λ t. Tells (is_path readings) (λ p. p) (λ v. path_in readings (Some v)) t (Some (view value.now))) }
 {
-    let Some(elements) = told_elements(alloc, value)? else {
+    let Some(elements) = told_elements(alloc, room, value)? else {
         return Ok(None);
     };
     Ok(Some(Path::new(elements)))
 }
 
-fn told_set(alloc: Global, value: &Json) -> Result<Option<FieldSet>, AllocError>
+fn told_set(
+    alloc: Global,
+    room: &mut ReadingRoom,
+    value: &Json,
+) -> Result<Option<FieldSet>, AllocError>
     ensures { IfOk result (λ t. Tells (is_fields readings) (λ s. s) (said_set readings.value) t (Some (view value.now))) }
 {
-    match FieldSet::from_fields_v1(alloc, value) {
+    match FieldSet::from_fields_v1_in(alloc, room, value) {
         Ok(set) => Ok(Some(set)),
         Err(ElemFault::OutOfMemory) => Err(AllocError),
         Err(ElemFault::BadElement | ElemFault::IndexElement | ElemFault::NotCanonical) => Ok(None),
@@ -60,13 +73,14 @@ fn told_set(alloc: Global, value: &Json) -> Result<Option<FieldSet>, AllocError>
 // The set that the member of a name says.
 pub fn set_at(
     alloc: Global,
+    room: &mut ReadingRoom,
     members: &Members<Json>,
     name: &str,
 ) -> Result<Option<FieldSet>, AllocError>
     ensures { IfOk result (λ t. Tells (is_fields readings) (λ s. s) (said_set readings.value) t (member_of name.now (members_view members.now.entries))) }
 {
     match find_member(members, name) {
-        Some(value) => told_set(alloc, value),
+        Some(value) => told_set(alloc, room, value),
         None => Ok(None),
     }
 }

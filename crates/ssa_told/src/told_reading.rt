@@ -11,21 +11,26 @@ use crate::body_lists::body_of;
 use crate::member_names::{Shape, have_names_of};
 use crate::table_reading::table_of;
 use crate::told::ToldRecord;
+use ssa_json::reading_room::ReadingRoom;
 use ssa_json::value::Json;
 use ssa_members::Members;
 use std::alloc::{AllocError, Global};
 
 // What these members tell.
-fn record_of(alloc: Global, members: &Members<Json>) -> Result<Option<ToldRecord>, AllocError>
+fn record_of(
+    alloc: Global,
+    room: &mut ReadingRoom,
+    members: &Members<Json>,
+) -> Result<Option<ToldRecord>, AllocError>
     ensures { IfOk result (λ t. Tells (is_record_shape readings) told_record (said_record readings) t (Some (object (members_view members.now.entries)))) }
 {
     if !have_names_of(Shape::Record, members) {
         return Ok(None);
     }
-    let Some(body) = body_of(alloc, members)? else {
+    let Some(body) = body_of(alloc, room, members)? else {
         return Ok(None);
     };
-    let Some(table) = table_of(alloc, members)? else {
+    let Some(table) = table_of(alloc, room, members)? else {
         return Ok(None);
     };
     Ok(Some(ToldRecord { body, table }))
@@ -42,7 +47,10 @@ pub fn told_record(alloc: Global, value: &Json) -> Result<Option<ToldRecord>, Al
     ensures table { IfOk result (λ t. IfSome t (λ r. told_table r.table ≡ said_table readings (view value.now))) }
 {
     match value {
-        Json::Object(members) => record_of(alloc, members),
+        Json::Object(members) => {
+            let mut room = ReadingRoom::new(alloc);
+            record_of(alloc, &mut room, members)
+        }
         Json::List(_) | Json::Scalar(_) => Ok(None),
     }
 }

@@ -17,7 +17,6 @@ pub mod Rooms
 pub mod Said
 pub mod Sizes
 pub mod Steps
-pub mod Swaps
 pub mod Told
 pub mod ToldValues
 pub mod Turnovers

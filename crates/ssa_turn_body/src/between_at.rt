@@ -15,17 +15,17 @@ use std::alloc::{AllocError, Global};
 /// there, with their room. Only the two trees are walked.
 pub fn steps_at(
     alloc: Global,
-    path: &mut Vec<Elem>,
+    mut path: Vec<Elem>,
     from: &Node,
     to: Node,
 ) -> Result<BodySteps, AllocError>
     requires from { is_tree from.now ≡ true }
     requires to { is_tree to ≡ true }
     requires alike { AreAlikeTrees from.now to }
-    ensures record { IfOk result (λ s. SayAt s (path_view path.old.items) from.now to) }
-    ensures room { IfOk result (λ s. ServeAt s (path_view path.old.items) from.now to) }
+    ensures record { IfOk result (λ s. SayAt s (path_view path.items) from.now to) }
+    ensures room { IfOk result (λ s. ServeAt s (path_view path.items) from.now to) }
 {
     let mut steps = Vec::new(alloc);
-    steps_below(alloc, path, from, to, &mut steps)?;
+    steps_below(alloc, &mut path, from, to, &mut steps)?;
     Ok(BodySteps { steps })
 }

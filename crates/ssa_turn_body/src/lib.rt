@@ -1,8 +1,7 @@
 //! Bodies changed in place by steps that become those that lead back, with no memory taken.
 //!
-//! [`steps_between`] tells what two bodies differ in, with the room for every later turn, [`steps_in_leaves`] does so where
-//! only known leaves and orders of lists differ, and [`steps_over`] tells what a configuration changes that is put over a
-//! body, of which some places go; [`turn_recorded`] takes a body there and back.
+//! [`steps_between`] tells what two bodies differ in, with the room for every later turn, and [`steps_over`] tells what a
+//! configuration changes that is put over a body, of which some places go; [`turn_recorded`] takes a body there and back.
 //!
 //! ```
 //! let (before, after) = bodies(
@@ -26,8 +25,6 @@ mod descent;
 mod exchanges;
 mod found;
 mod going;
-pub mod leaf_steps;
-mod leaf_walk;
 pub mod live_body;
 pub mod over_steps;
 mod over_walk;
@@ -49,7 +46,6 @@ mod writing_parts;
 
 pub use between::steps_between;
 pub use between_at::steps_at;
-pub use leaf_steps::steps_in_leaves;
 pub use live_body::{LiveBody, turn_recorded};
 pub use over_steps::steps_over;
 pub use steps::BodySteps;

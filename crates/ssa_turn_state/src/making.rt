@@ -12,7 +12,6 @@ ghost use Rattle.ssa_merge.specs.TableChanges.{changed_table, LeadsTo};
 ghost use Rattle.ssa_turn_body.specs.Records.{body_told};
 ghost use Rattle.ssa_turn_body.specs.Rooms.{HasBodyRoom};
 ghost use Rattle.ssa_turn_state.specs.States.{HasStateRoom, state_steps};
-ghost use Rattle.ssa_typed.specs.Differences.{IsComparison};
 
 use crate::live_state::StateDelta;
 use ssa_merge::change::NewBody;
@@ -20,14 +19,13 @@ use ssa_merge::plan::Plan;
 use ssa_merge::state::State;
 use ssa_merge::table_change::TableChange;
 use ssa_model::records::{record_leads, size_bound};
+use ssa_path::field_set::FieldSet;
 use ssa_turn_body::between::steps_between;
-use ssa_turn_body::leaf_steps::steps_in_leaves;
 use ssa_turn_body::over_steps::steps_over;
 use ssa_turn_body::steps::BodySteps;
 use ssa_turn_table::between::table_between;
 use ssa_turn_table::table_delta::table_delta;
 use ssa_typed::body::Body;
-use ssa_typed::compare::Comparison;
 use std::alloc::{AllocError, Global};
 
 // The changes that lead from a body to another one.
@@ -39,70 +37,49 @@ fn whole_steps(alloc: Global, from: &Body, to: Body) -> Result<BodySteps, AllocE
     steps_between(alloc, from, to)
 }
 
-// The same, where a comparison tells how the other body differs. Mostly nothing comes or goes, and the leaves that are others
-// are known.
-fn steps_to(
-    alloc: Global,
-    from: &Body,
-    to: Body,
-    comparison: &Comparison,
-) -> Result<BodySteps, AllocError>
-    requires fit { (kind : Kind) × IsBodyOf kind from.now × IsBodyOf kind to }
-    requires compared { IsComparison from.now to comparison.now }
-    ensures told { IfOk result (λ s. body_told s ≡ body_record from.now to) }
-    ensures room { IfOk result (λ s. HasBodyRoom s from.now) }
-{
-    if comparison.added.is_empty() && comparison.removed.is_empty() {
-        return steps_in_leaves(alloc, from, to, &comparison.modified);
-    }
-    whole_steps(alloc, from, to)
-}
-
-// The changes of a body that lead to the one after a command, of which a comparison tells how it differs.
+// The changes of a body that lead to the one after a command by which these places go.
 fn body_steps(
     alloc: Global,
     from: &Body,
     to: NewBody,
-    comparison: &Comparison,
+    gone: &FieldSet,
 ) -> Result<BodySteps, AllocError>
-    requires fit { (kind : Kind) × IsBodyOf kind from.now × IsBodyOf kind (body_after to comparison.now.removed from.now) }
-    requires stands { CanStand to comparison.now.removed from.now }
-    requires compared { IsComparison from.now (body_after to comparison.now.removed from.now) comparison.now }
-    ensures told { IfOk result (λ s. body_told s ≡ body_record from.now (body_after to comparison.now.removed from.now)) }
+    requires fit { (kind : Kind) × IsBodyOf kind from.now × IsBodyOf kind (body_after to gone.now from.now) }
+    requires stands { CanStand to gone.now from.now }
+    ensures told { IfOk result (λ s. body_told s ≡ body_record from.now (body_after to gone.now from.now)) }
     ensures room { IfOk result (λ s. HasBodyRoom s from.now) }
 {
     match to {
         NewBody::Same => Ok(BodySteps::none(alloc)),
-        NewBody::Whole(body) => steps_to(alloc, from, body, comparison),
-        NewBody::Over(config) => steps_over(alloc, from, config, &comparison.removed),
+        NewBody::Whole(body) => whole_steps(alloc, from, body),
+        NewBody::Over(config) => steps_over(alloc, from, config, gone),
     }
 }
 
 impl StateDelta {
-    /// The record of a change of a state, of whose body a comparison tells how it differs, with room for every turn of it.
-    /// Nothing that stays is copied.
+    /// The record of a change of a state by which these places of its body go, with room for every turn of it. Nothing that
+    /// stays is copied.
     ///
     /// All memory that its turns want is taken here; `Err` comes where it is refused.
     pub fn of_change(
         alloc: Global,
         state: &State,
         body: NewBody,
-        comparison: &Comparison,
+        gone: &FieldSet,
         table: TableChange,
     ) -> Result<StateDelta, AllocError>
-        requires stands { CanStand body comparison.now.removed state.now.body }
-        requires compared { IsComparison state.now.body (body_after body comparison.now.removed state.now.body) comparison.now }
-        requires valid { (kind : Kind) × IsValidState kind (state_view state.now) × IsValidState kind (changed_state (state_view state.now) body comparison.now.removed table) }
+        requires stands { CanStand body gone.now state.now.body }
+        requires valid { (kind : Kind) × IsValidState kind (state_view state.now) × IsValidState kind (changed_state (state_view state.now) body gone.now table) }
         requires leads { LeadsTo (state_view state.now).table table (changed_table table (state_view state.now).table) }
         requires order { KeepsOrder (state_view state.now).table (changed_table table (state_view state.now).table) }
-        ensures record { IfOk result (λ d. state_steps d ≡ record_of (state_view state.now) (changed_state (state_view state.now) body comparison.now.removed table)) }
-        ensures leads { IfOk result (λ d. carry (state_steps d) (state_view state.now) ≡ changed_state (state_view state.now) body comparison.now.removed table) }
-        ensures bound { IfOk result (λ d. record_size (state_steps d) ≤ facts (state_view state.now) (changed_state (state_view state.now) body comparison.now.removed table)) }
+        ensures record { IfOk result (λ d. state_steps d ≡ record_of (state_view state.now) (changed_state (state_view state.now) body gone.now table)) }
+        ensures leads { IfOk result (λ d. carry (state_steps d) (state_view state.now) ≡ changed_state (state_view state.now) body gone.now table) }
+        ensures bound { IfOk result (λ d. record_size (state_steps d) ≤ facts (state_view state.now) (changed_state (state_view state.now) body gone.now table)) }
         ensures room { IfOk result (λ d. HasStateRoom d (state_view state.now)) }
     {
         record_leads();
         size_bound();
-        StateDelta::of_parts(alloc, state, body, comparison, table)
+        StateDelta::of_parts(alloc, state, body, gone, table)
     }
 
     // The same, without what the laws say of it.
@@ -110,18 +87,17 @@ impl StateDelta {
         alloc: Global,
         state: &State,
         body: NewBody,
-        comparison: &Comparison,
+        gone: &FieldSet,
         table: TableChange,
     ) -> Result<StateDelta, AllocError>
-        requires stands { CanStand body comparison.now.removed state.now.body }
-        requires compared { IsComparison state.now.body (body_after body comparison.now.removed state.now.body) comparison.now }
-        requires valid { (kind : Kind) × IsValidState kind (state_view state.now) × IsValidState kind (changed_state (state_view state.now) body comparison.now.removed table) }
+        requires stands { CanStand body gone.now state.now.body }
+        requires valid { (kind : Kind) × IsValidState kind (state_view state.now) × IsValidState kind (changed_state (state_view state.now) body gone.now table) }
         requires leads { LeadsTo (state_view state.now).table table (changed_table table (state_view state.now).table) }
         requires order { KeepsOrder (state_view state.now).table (changed_table table (state_view state.now).table) }
-        ensures record { IfOk result (λ d. state_steps d ≡ record_of (state_view state.now) (changed_state (state_view state.now) body comparison.now.removed table)) }
+        ensures record { IfOk result (λ d. state_steps d ≡ record_of (state_view state.now) (changed_state (state_view state.now) body gone.now table)) }
         ensures room { IfOk result (λ d. HasStateRoom d (state_view state.now)) }
     {
-        let body = body_steps(alloc, &state.body, body, comparison)?;
+        let body = body_steps(alloc, &state.body, body, gone)?;
         let table = table_delta(alloc, state.managers.entries(), table)?;
         Ok(StateDelta { body, table })
     }

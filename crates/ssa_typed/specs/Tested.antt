@@ -1,8 +1,8 @@
 -- Values that are tested while their trees are made.
-use Rattle.std.specs.Prelude.{◌≡◌, Bool, false, List, [], ◌∷◌, ◌++◌, Option, None, Some}
+use Rattle.std.specs.Prelude.{◌≡◌, Bool, true, false, List, [], ◌∷◌, ◌++◌, Option, None, Some}
 use Rattle.ssa_model.specs.definitions.Json.{Text, Json, object, scalar}
 use Rattle.ssa_model.specs.definitions.Path.{field, Path}
-use Rattle.ssa_model.specs.definitions.Kind.{Kind, Fields, FaultAt, faults, fault_at, is_of, key_faults, kind_of, or_else, scalar_kind, unknown_field, wrong_type}
+use Rattle.ssa_model.specs.definitions.Kind.{Kind, Fields, FaultAt, faults, fault_at, atomic_of, is_of, key_faults, kind_of, or_else, scalar_kind, set_of, unknown_field, wrong_type}
 use Rattle.ssa_schema.specs.Finds.{Finds, keyed_faults}
 use Rattle.ssa_schema.specs.declared.fit.found.Found.{Found}
 use Rattle.ssa_typed.specs.declared.tested.Tested.{Tested}
@@ -17,6 +17,13 @@ IsTested here made (Breaks f) = Finds (Some f) here
 abbrev pub PushesTested : {X : Type 0} → (Path → List FaultAt) → (X → Type 0) → List X → List X → Option Found → Type 0
 PushesTested here made old new None = (x : _) × (new ≡ old ++ x ∷ []) × IsTested here made (Fits x)
 PushesTested here made old new (Some f) = IsTested here made (Breaks f)
+
+-- the kind has no fields and no entries: a scalar, an atomic value or a set
+abbrev pub is_plain : Kind → Bool
+is_plain (scalar_kind k) = true
+is_plain (atomic_of k) = true
+is_plain (set_of k) = true
+is_plain _ = false
 
 -- the value is a scalar of a kind that takes it
 abbrev pub is_fitting_scalar : Kind → Json → Bool

@@ -5,10 +5,9 @@ ghost use Rattle.ssa_json.specs.View.{view};
 ghost use Rattle.ssa_schema.specs.Kinds.{kind_view};
 ghost use Rattle.ssa_typed.specs.Reads.{ReadsTree};
 
-use crate::build::tree_of;
 use crate::node::Node;
+use crate::tested::{Tested, tested_tree};
 use ssa_json::value::Json;
-use ssa_schema::fitting::fits;
 use ssa_schema::kind::Kind;
 use std::alloc::{AllocError, Global};
 
@@ -17,9 +16,8 @@ pub fn tree_at(alloc: Global, kind: &Kind, value: Json) -> Result<Option<Node>, 
     requires { is_keyed (kind_view kind.now) ≡ true }
     ensures { IfOk result (λ o. ReadsTree o (kind_view kind.now) (view value)) }
 {
-    let fitting = fits(alloc, &value, kind)?;
-    if !fitting {
-        return Ok(None);
+    match tested_tree(alloc, kind, value)? {
+        Tested::Fits(tree) => Ok(Some(tree)),
+        Tested::Breaks(_) => Ok(None),
     }
-    Ok(Some(tree_of(alloc, kind, value)?))
 }

@@ -1,4 +1,4 @@
-//! Bodies of values.
+//! The body of a value, or why it has none.
 ghost use Rattle.std.specs.Prelude.{◌≡◌, true, IfOk};
 ghost use Rattle.ssa_model.specs.definitions.Kind.{faults};
 ghost use Rattle.ssa_model.specs.definitions.Fitting.{IsBodyOf};

@@ -8,9 +8,9 @@ ghost use Rattle.ssa_json.specs.View.{view, items_view, members_view};
 ghost use Rattle.ssa_schema.specs.Finds.{Finds};
 ghost use Rattle.ssa_schema.specs.Kinds.{kind_view, fields_view, names_view};
 ghost use Rattle.ssa_typed.specs.Flats.{member_places, AreListed, AreNamed, IsChild, IsItem, IsTreeOf};
-ghost use Rattle.ssa_typed.specs.Tested.{is_fitting_scalar, member_faults, own_item_faults, IsTested, PushesTested};
+ghost use Rattle.ssa_typed.specs.Tested.{is_fitting_scalar, is_plain, member_faults, own_item_faults, IsTested, PushesTested};
 
-use crate::build::tree_of;
+use crate::build::plain_tree;
 use crate::item_keys::keys_of;
 use crate::node::{Leaf, Node};
 use crate::parts::into_scalar;
@@ -44,21 +44,25 @@ fn below_key(alloc: Global, found: Found, own: Keys) -> Result<Found, AllocError
     found.below(key_name(alloc, own.members())?)
 }
 
-// The tree of a value that is tested before it is made, or the value's first fault.
-fn tested_whole(alloc: Global, kind: &Kind, value: Json) -> Result<Tested<Node>, AllocError>
-    requires { is_keyed (kind_view kind.now) ≡ true }
+// The tree of a value of a kind that has no fields and no entries: it is tested before it is made.
+fn tested_plain(alloc: Global, kind: &Kind, value: Json) -> Result<Tested<Node>, AllocError>
+    requires { is_plain (kind_view kind.now) ≡ true }
     ensures { IfOk result (λ t. IsTested (kinds.faults (kind_view kind.now) (view value)) (IsTreeOf (kind_view kind.now) (view value)) t) }
 {
     if let Some(found) = value_fault(alloc, &value, kind)? {
         return Ok(Tested::Breaks(found));
     }
-    Ok(Tested::Fits(tree_of(alloc, kind, value)?))
+    Ok(Tested::Fits(plain_tree(alloc, kind, value)?))
 }
 
 // The tree of a value, or its first fault. Members and items are tested one by one, and each is made a child at once.
 #[cycle(tested)]
 #[inline(always)]
-fn tested_tree(alloc: Global, kind: &Kind, value: Json) -> Result<Tested<Node>, AllocError>
+pub(crate) fn tested_tree(
+    alloc: Global,
+    kind: &Kind,
+    value: Json,
+) -> Result<Tested<Node>, AllocError>
     requires { is_keyed (kind_view kind.now) ≡ true }
     ensures { IfOk result (λ t. IsTested (kinds.faults (kind_view kind.now) (view value)) (IsTreeOf (kind_view kind.now) (view value)) t) }
 {
@@ -81,10 +85,14 @@ fn tested_tree(alloc: Global, kind: &Kind, value: Json) -> Result<Tested<Node>, 
                 Tested::Breaks(found) => Ok(Tested::Breaks(found)),
             }
         }
+        (Kind::Record(_) | Kind::Dict(_), Json::List(_) | Json::Scalar(_))
+        | (Kind::ItemsOf { .. }, Json::Object(_) | Json::Scalar(_)) => {
+            Ok(Tested::Breaks(Found::here(alloc, Misfit::WrongType)))
+        }
         // (taken out of the result of the call, so that what the frequent ways make need not stand where a call writes)
-        (_, value) => {
-            let whole = tested_whole(alloc, kind, value)?;
-            Ok(whole)
+        (Kind::Scalar(_) | Kind::AtomicOf(_) | Kind::SetOf(_), value) => {
+            let plain = tested_plain(alloc, kind, value)?;
+            Ok(plain)
         }
     }
 }

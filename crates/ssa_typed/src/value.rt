@@ -1,5 +1,5 @@
-//! The values of trees.
-ghost use Rattle.std.specs.Prelude.{◌≡◌, true, IfOk, OnOk};
+//! The value that a tree shows.
+ghost use Rattle.std.specs.Prelude.{◌≡◌, true, IfOk, OnErr, OnOk};
 ghost use Rattle.ssa_json.specs.View.{view, items_view, members_view};
 ghost use Rattle.ssa_path.specs.Children.{elements, rises};
 ghost use Rattle.ssa_path.specs.View.{element_view};
@@ -41,7 +41,8 @@ pub fn put_under(
     element: &Elem,
     value: Json,
 ) -> Result<(), AllocError>
-    ensures { OnOk result (members_view members.new.entries ≡ with_member_under (element_view element.now) (view value) (members_view members.old.entries)) }
+    ensures put { OnOk result (members_view members.new.entries ≡ with_member_under (element_view element.now) (view value) (members_view members.old.entries)) }
+    ensures err { OnErr result (members.new ≡ members.old) }
 {
     match element {
         Elem::Field(name) => {

@@ -1,4 +1,4 @@
-//! The kinds of schemas.
+//! The kind of a schema that has no fault.
 ghost use Rattle.std.specs.Prelude.{◌≡◌, true, IfOk};
 ghost use Rattle.ssa_model.specs.definitions.Schema.{scalar_kind_of, kind_fields, property_members, item_members};
 ghost use Rattle.ssa_json.specs.View.{view, members_view};

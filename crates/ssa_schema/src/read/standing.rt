@@ -1,4 +1,4 @@
-//! Where a schema stands.
+//! Where in a schema the walk stands, and what holds there.
 ghost use Rattle.std.specs.Prelude.{◌≡◌};
 ghost use Rattle.ssa_model.specs.definitions.Schema.{is_at_root, is_in_atomic, standing_inside};
 ghost use Rattle.ssa_json.specs.View.{members_view};

@@ -109,7 +109,7 @@ kept_members-loop-child-preserved t c =
     let uncut = ap (λ g. has m.cut (g ++ e ∷ [])) (sym here) ∙ sym c.is_cut.ensures ∙ c.if-is_cut.false in
     let led : IsLed m (p ++ e ∷ []) child.1 c.in_ok-value.field-0 =
     subst (λ xs. IsLed m (path_view xs ++ e ∷ []) child.1 c.in_ok-value.field-0) c.loop-child.invariant.path c.in_ok-value.ensures.led in
-    let made : members_view c.put_under.new.members.entries ≡ with_member_under e (view value) ms = c.in_ok-put_under-in-Some.ensures in
+    let made : members_view c.put_under.new.members.entries ≡ with_member_under e (view value) ms = c.in_ok-put_under-in-Some.ensures.put in
     record {
       path = c.in_ok-value.ensures.path ∙ c.loop-child.invariant.path;
       kept =

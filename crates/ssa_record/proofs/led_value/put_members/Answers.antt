@@ -27,7 +27,7 @@ loop-child-preserved c =
       | in-Some+in_ok-value-in-Some+in_ok-put_under-in-Some w ↦
           let told = sym c.put_at.ensures ∙ ap (option_map (λ x. (view x.now.value, x.now.place))) w.in-Some.is in
           let made : members_view c.match-put_at.members.entries ≡ with_member_under (element_view child.0) (view w.in-Some.put.now.value) now =
-          ap (λ x. members_view x.entries) w.members-is ∙ w.in_ok-put_under-in-Some.ensures
+          ap (λ x. members_view x.entries) w.members-is ∙ w.in_ok-put_under-in-Some.ensures.put
           ∙ ap (λ j. with_member_under (element_view child.0) j now) w.in_ok-value-in-Some.ensures in
           subst (λ xs. ArePutSoFar m p xs before (members_view c.match-put_at.members.entries)) (sym more)
           (subst (λ x. ArePutSoFar m p (take i ts ++ child ∷ []) before x) (sym made)

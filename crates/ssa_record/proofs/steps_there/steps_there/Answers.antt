@@ -21,7 +21,7 @@ returns-in_default c =
     let m = maps_of c.args.told.now in
     let kind = c.args.schema.now.kind in
     let v = c.args.body.now in
-    let p = path_view c.args.path.now.items in
+    let p = path_view c.args.path.items in
     let s = c.args.spot.now in
     let k = kind_view s.kind.now in
     let r = c.requires in
@@ -36,14 +36,14 @@ returns-in_default c =
 pub tree_at-requires : goal.tree_at-requires
 tree_at-requires c =
     let r = c.requires in
-    keyed (maps_of c.args.told.now) c.args.schema.now.kind c.args.body.now (path_view c.args.path.now.items) c.args.spot.now r.lawful r.valid r.spot r.inner
+    keyed (maps_of c.args.told.now) c.args.schema.now.kind c.args.body.now (path_view c.args.path.items) c.args.spot.now r.lawful r.valid r.spot r.inner
 
 pub returns-in_default-2 : goal.returns-in_default-2
 returns-in_default-2 c =
     let m = maps_of c.args.told.now in
     let kind = c.args.schema.now.kind in
     let v = c.args.body.now in
-    let p = path_view c.args.path.now.items in
+    let p = path_view c.args.path.items in
     let s = c.args.spot.now in
     let k = kind_view s.kind.now in
     let r = c.requires in
@@ -62,7 +62,7 @@ returns-in_default-2 c =
 pub has_room-requires-clause-part : goal.has_room-requires-clause-part
 has_room-requires-clause-part c =
     let r = c.requires in
-    part-small (maps_of c.args.told.now) c.args.schema.now.kind c.args.body.now (path_view c.args.path.now.items) c.args.spot.now r.lawful r.valid r.spot
+    part-small (maps_of c.args.told.now) c.args.schema.now.kind c.args.body.now (path_view c.args.path.items) c.args.spot.now r.lawful r.valid r.spot
     r.inner
 
 pub returns-then-not-has_room : goal.returns-then-not-has_room
@@ -70,7 +70,7 @@ returns-then-not-has_room c =
     let m = maps_of c.args.told.now in
     let kind = c.args.schema.now.kind in
     let v = c.args.body.now in
-    let p = path_view c.args.path.now.items in
+    let p = path_view c.args.path.items in
     let s = c.args.spot.now in
     let k = kind_view s.kind.now in
     let r = c.requires in
@@ -95,7 +95,7 @@ steps_at-requires-clause-alike c =
     let k = kind_view c.args.spot.now.kind.now in
     let value = view c.in-Some.value in
     let read = subst (λ o. ReadsTree o k value) c.in-Some-2.is c.in_ok-after.ensures in
-    alike-trees (maps_of c.args.told.now) c.args.schema.now.kind c.args.body.now (path_view c.args.path.now.items) c.args.spot.now r.lawful r.valid r.spot
+    alike-trees (maps_of c.args.told.now) c.args.schema.now.kind c.args.body.now (path_view c.args.path.items) c.args.spot.now r.lawful r.valid r.spot
     r.inner
     value c.in-Some-2.after read
 
@@ -104,7 +104,7 @@ returns c =
     let m = maps_of c.args.told.now in
     let kind = c.args.schema.now.kind in
     let v = c.args.body.now in
-    let p = path_view c.args.path.now.items in
+    let p = path_view c.args.path.items in
     let s = c.args.spot.now in
     let k = kind_view s.kind.now in
     let r = c.requires in

@@ -34,7 +34,7 @@ members_of-value_of-requires t c = (
 pub members_of-loop-element-preserved : goal.members_of-loop-element-preserved
 members_of-loop-element-preserved t c =
     let e = c.loop-element-item.result in
-    c.in_ok-put_under.ensures
+    c.in_ok-put_under.ensures.put
     ∙ (λ i. with_member_under (element_view e.0) (c.in_ok-value.ensures i) (c.loop-element.invariant i))
     ∙ sym (members-more c.args.children.now c.loop-element.element-index e (omega arith) c.loop-element-item.is c.requires.rise)
 

@@ -15,7 +15,7 @@ use Rattle.ssa_bench.specs.Benches.{IsPrepared}
 use Rattle.ssa_answers.specs.declared.fault.Fault.{Fault}
 use Rattle.ssa_turn.specs.TablesBack.{HasTableBack}
 use Rattle.ssa_turn.specs.declared.label.Label.TheVariants.{Apply}
-use Rattle.ssa_bench.proofs.Planned.{IsKept, IsRecorded, accepted, compares-itself, leads-itself, planned-at, present-back, present-paths, refused-planned}
+use Rattle.ssa_bench.proofs.Planned.{IsKept, IsRecorded, accepted, leads-itself, planned-at, present-back, present-paths, refused-planned}
 use Rattle.ssa_model.proofs.ValidTimelines.{present_valid}
 use Rattle.ssa_bench.proofs.bench.Bench.prepare_configuration.Goals as goal
 
@@ -48,9 +48,6 @@ pub accepted-requires-clause-read : goal.accepted-requires-clause-read
 accepted-requires-clause-read c =
     let b = c.self.inside in
     subst (λ (s : State). HasReadPaths readings s.body) (sym c.present-now.ensures) (present-paths b.timeline c.own_paths_are_read.ensures)
-
-pub accepted-requires-clause-compared : goal.accepted-requires-clause-compared
-accepted-requires-clause-compared c = compares-itself c.in-Ok.ensures.change.2
 
 pub accepted-requires-clause-leads : goal.accepted-requires-clause-leads
 accepted-requires-clause-leads c = leads-itself c.in-Ok.ensures.change.2

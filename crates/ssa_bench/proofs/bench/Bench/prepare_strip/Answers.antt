@@ -9,7 +9,7 @@ use Rattle.ssa_merge.specs.States.{state_view}
 use Rattle.ssa_merge.specs.Plans.{IsChange}
 use Rattle.ssa_turn.specs.TablesBack.{HasTableBack}
 use Rattle.ssa_turn.specs.declared.label.Label.TheVariants.{Strip}
-use Rattle.ssa_bench.proofs.Planned.{IsKept, IsRecorded, compares-itself, leads-itself, planned, present-back, present-paths}
+use Rattle.ssa_bench.proofs.Planned.{IsKept, IsRecorded, leads-itself, planned, present-back, present-paths}
 use Rattle.ssa_model.proofs.ValidTimelines.{present_valid}
 use Rattle.ssa_bench.proofs.bench.Bench.prepare_strip.Goals as goal
 
@@ -24,9 +24,6 @@ pub accepted-requires-clause-read : goal.accepted-requires-clause-read
 accepted-requires-clause-read c =
     let b = c.self.inside in
     subst (λ (s : State). HasReadPaths readings s.body) (sym c.present-now.ensures) (present-paths b.timeline c.own_paths_are_read.ensures)
-
-pub accepted-requires-clause-compared : goal.accepted-requires-clause-compared
-accepted-requires-clause-compared c = compares-itself c.in_ok-change.ensures.change
 
 pub accepted-requires-clause-leads : goal.accepted-requires-clause-leads
 accepted-requires-clause-leads c = leads-itself c.in_ok-change.ensures.change

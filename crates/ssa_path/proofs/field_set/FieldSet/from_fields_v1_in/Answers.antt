@@ -1,7 +1,7 @@
 use Rattle.std.proofs.Common.{ap, sym, ◌∙◌}
 use Rattle.ssa_model.specs.definitions.PathMap.{listed}
 use Rattle.ssa_path.proofs.FieldsSays.{json-of-set, written-set}
-use Rattle.ssa_path.proofs.field_set.FieldSet.from_fields_v1.Goals as goal
+use Rattle.ssa_path.proofs.field_set.FieldSet.from_fields_v1_in.Goals as goal
 
 pub returns-clause-written : goal.returns-clause-written
 returns-clause-written c =

@@ -4,9 +4,9 @@ use Rattle.ssa_json.specs.View.{view}
 use Rattle.ssa_schema.specs.Finds.{Finds}
 use Rattle.ssa_schema.specs.Kinds.{kind_view}
 use Rattle.ssa_typed.proofs.Fitting.{no-first}
-use Rattle.ssa_typed.proofs.tested.tested_whole.Goals as goal
+use Rattle.ssa_typed.proofs.tested.tested_plain.Goals as goal
 
-pub tree_of-requires-clause-fits : goal.tree_of-requires-clause-fits
-tree_of-requires-clause-fits c =
+pub plain_tree-requires-clause-fits : goal.plain_tree-requires-clause-fits
+plain_tree-requires-clause-fits c =
     let here = kinds.faults (kind_view c.args.kind.now) (view c.args.value) in
     ([], no-first (here []) (subst (λ o. Finds o here) c.in_default.is c.in_ok-found.ensures []))
