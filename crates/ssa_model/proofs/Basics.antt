@@ -112,6 +112,10 @@ le-of a b h = grind (arith, nat_tests)
 pub nat_le-of : (a b : ℕ) → a ≤ b → nat_le a b ≡ true
 nat_le-of a b h = grind (arith, nat_tests)
 
+-- the same lists go on with the same
+pub same-tails : (x y : ℕ) (u v : List ℕ) → x ∷ u ≡ y ∷ v → u ≡ v
+same-tails x y u v e = cc
+
 -- ---- orders
 
 -- an order that nothing follows is equal where it was
