@@ -1,5 +1,5 @@
 -- What an answer may be: nothing new, another place, or a deed's state behind the present one.
-use Rattle.std.proofs.Common.{◌≡◌, ℕ, ◌+◌, ◌-◌, ◌≤◌, ◌==◌, length, nat_le, Bool, true, false, not, refl, ap, arith}
+use Rattle.std.proofs.Common.{◌≡◌, ℕ, ◌+◌, ◌-◌, ◌≤◌, ◌==◌, length, Bool, true, false, not, refl, ap, arith}
 use Rattle.std.proofs.lemmas.Bool.Decides.{nat_tests}
 use Rattle.std.specs.Prelude.{Result, Ok, Err, if◌then◌else◌, codes, Some, option_map}
 use Rattle.ssa_model.specs.definitions.Json.{Text, Json}

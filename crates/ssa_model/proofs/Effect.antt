@@ -1,15 +1,12 @@
 -- Answers keep a history of commands carried out, and the present state is what they make.
-use Rattle.std.proofs.Common.{◌≡◌, ℕ, suc, zero, ◌+◌, ◌-◌, ◌≤◌, ◌==◌, List, [], ◌∷◌, ◌++◌, length, take, drop, nat_lt, append-nil, Bool, true, false, not, refl, ap, ◌∙◌, arith, length-append, length-take, nat_le, sym}
-use Rattle.std.proofs.lemmas.Bool.Decides.{nat_tests}
-use Rattle.std.specs.Prelude.{Result, Ok, Err, if◌then◌else◌, codes, None, Some, option_map}
-use Rattle.ssa_model.specs.definitions.Json.{Text, Json}
-use Rattle.ssa_model.specs.definitions.Body.{Body}
-use Rattle.ssa_model.specs.definitions.Parts.{Actor}
+use Rattle.std.proofs.Common.{◌≡◌, ℕ, suc, zero, ◌+◌, ◌-◌, ◌≤◌, List, [], ◌∷◌, ◌++◌, length, take, drop, nat_lt, append-nil, Bool, true, false, refl, ap, ◌∙◌, arith, length-append, length-take, sym}
+use Rattle.std.specs.Prelude.{Result, Ok, Err, if◌then◌else◌, None, Some}
+use Rattle.ssa_model.specs.definitions.Json.{Text}
 use Rattle.ssa_model.specs.definitions.Operations.{State, Refusal}
-use Rattle.ssa_model.specs.definitions.History.{Step, Timeline, Bench, present, past_len, future_len, last_state, appended, forgotten, moved_to, with_timeline, is_manager_name}
-use Rattle.ssa_model.specs.definitions.Answers.{Answer, Reply, moved, shown, owned_by, logged, refused, manager_name, no_subresource, has_part, nothing_to_undo, nothing_to_redo, Fault, fault, Command, apply, update, strip, undo, redo, show, owners, log, answer, accept, accept_or_refuse, with_body, apply_answer, command_body}
+use Rattle.ssa_model.specs.definitions.History.{Step, Timeline, Bench, present, last_state, appended, forgotten, moved_to, with_timeline}
+use Rattle.ssa_model.specs.definitions.Answers.{Answer, Reply, moved, Command, answer, accept}
 use Rattle.ssa_model.proofs.Answered.{answers-hold}
-use Rattle.ssa_model.specs.definitions.Effect.{Deeds, with_deed, deeds_to, is_accepted, body_in, deed_of, Deed, applying, updating, stripping, label_of, carried_out, and_then, all_carried_out, AreSteps, IsHistory, KeepsHistory, PresentIsCarriedOut, HistoriesAreCarriedOut}
+use Rattle.ssa_model.specs.definitions.Effect.{Deeds, with_deed, is_accepted, deed_of, Deed, label_of, carried_out, and_then, all_carried_out, AreSteps, IsHistory, KeepsHistory, PresentIsCarriedOut, HistoriesAreCarriedOut}
 
 pub steps-take : (n : ℕ) (s : State) (ds : List Deed) (ts : List Step) → AreSteps s ds ts → AreSteps s (take n ds) (take n ts)
 steps-take zero s ds ts h = tt

@@ -2,12 +2,11 @@
 use Rattle.std.proofs.Common.{◌≡◌, ◌⊎◌, inl, inr, ℕ, suc, zero, ◌+◌, ◌-◌, ◌≤◌, List, [], ◌∷◌, ◌++◌, length, take, drop, nat_lt, append-nil, append_assoc, Bool, true, false, refl, sym, ap, subst, ◌∙◌, arith, length-append}
 use Rattle.std.proofs.Math.Seq.{take-add, take-length, take-append_seam, drop-append_seam}
 use Rattle.std.proofs.lemmas.List.{length-take-le, take-append-drop}
-use Rattle.std.specs.Prelude.{Result, Ok, if◌then◌else◌}
-use Rattle.ssa_model.specs.definitions.Json.{Text}
-use Rattle.ssa_model.specs.definitions.Operations.{State, Refusal}
-use Rattle.ssa_model.specs.definitions.History.{Step, Timeline, Bench, present, last_state, appended, forgotten, held, moved_to, with_timeline}
-use Rattle.ssa_model.specs.definitions.Answers.{Answer, Reply, moved, Command, answer, accept, run}
-use Rattle.ssa_model.specs.definitions.Effect.{Deed, deed_of, is_accepted, label_of, carried_out, AreSteps}
+use Rattle.std.specs.Prelude.{Ok, if◌then◌else◌}
+use Rattle.ssa_model.specs.definitions.Operations.{State}
+use Rattle.ssa_model.specs.definitions.History.{Step, Timeline, Bench, present, last_state, appended, forgotten, moved_to}
+use Rattle.ssa_model.specs.definitions.Answers.{Command, answer, run}
+use Rattle.ssa_model.specs.definitions.Effect.{Deed, label_of, carried_out, AreSteps}
 use Rattle.ssa_model.specs.laws.Headline.{GoesOn, RunGoesOn}
 use Rattle.ssa_model.proofs.Answered.{answers-hold}
 use Rattle.ssa_model.proofs.Effect.{steps-take, steps-push, longer}

@@ -1,11 +1,9 @@
 -- Members whose names rise are those that a body shows under fields and entries, where each shows the member of its name.
-use Rattle.std.proofs.Common.{◌≡◌, List, [], ◌∷◌, ◌++◌, true, false, not, ◌&&◌, ◌||◌, Option, Some, None, refl, sym, ap, subst, ◌∙◌, true≢false}
+use Rattle.std.proofs.Common.{◌≡◌, List, [], ◌∷◌, ◌++◌, true, false, ◌||◌, Some, None, refl, sym, ap, subst, ◌∙◌, true≢false}
 use Rattle.std.proofs.lemmas.Option.{same_Some, none-some}
 use Rattle.std.specs.Prelude.{if◌then◌else◌, is_some}
 use Rattle.std.specs.List.{list_any}
-use Rattle.std.specs.Ordering.{is_lt, nat_cmp}
-use Rattle.std.specs.Cmp.{first_so, second_so, tied_itself}
-use Rattle.std.specs.Cmp.Lexicographic.{slice_cmp, nat_list_cmp_total}
+use Rattle.std.specs.Cmp.{first_so, second_so}
 use Rattle.ssa_model.specs.definitions.Json.{Text, Json, Members, no_members, member, member_of, same_text}
 use Rattle.ssa_model.specs.definitions.Path.{field, Path}
 use Rattle.ssa_model.specs.definitions.PathMap.{has}
@@ -13,14 +11,13 @@ use Rattle.ssa_model.specs.definitions.Kind.{Kind, Fields, no_fields, kind_field
 use Rattle.ssa_model.specs.definitions.Body.{Body}
 use Rattle.ssa_model.specs.definitions.Lawful.{is_before_all, is_ordered, are_ordered, names_rise_after}
 use Rattle.ssa_model.specs.definitions.MemberNames.{is_below, has_rising_names, members_rise}
-use Rattle.ssa_model.specs.definitions.Objects.{is_missing, shown, shown_fields, entry_members}
+use Rattle.ssa_model.specs.definitions.Objects.{shown, shown_fields, entry_members}
 use Rattle.ssa_model.proofs.KindParts.{none-before}
 use Rattle.ssa_model.proofs.ReachedPlaces.{missing}
 use Rattle.ssa_model.proofs.OneWriting.{below-on}
 use Rattle.ssa_model.proofs.RisingMembers.{missing-below}
 use Rattle.ssa_model.proofs.RisingNames.{apart-less, before, do_rise, rest-rise, rise-on}
 use Rattle.ssa_model.proofs.Tables.{same_text-true, text-itself}
-use Rattle.ssa_model.proofs.Basics.{lower}
 use Rattle.ssa_model.proofs.Fitting.{some_there}
 
 -- ---- members that rise

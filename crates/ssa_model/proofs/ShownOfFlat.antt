@@ -1,14 +1,14 @@
 -- The value of which a body is the flattening is the one that the body shows, but for an empty `metadata`.
-use Rattle.std.proofs.Common.{◌≡◌, List, [], ◌∷◌, ◌++◌, map, Bool, true, false, not, ◌&&◌, ◌||◌, Option, Some, None, Ordering, Less, option_map, refl, sym, ap, subst, ◌∙◌, true≢false}
-use Rattle.std.proofs.lemmas.Option.{same_Some, none-some}
+use Rattle.std.proofs.Common.{◌≡◌, List, [], ◌∷◌, ◌++◌, map, true, false, not, ◌&&◌, ◌||◌, Option, Some, None, Ordering, Less, option_map, refl, sym, ap, subst, ◌∙◌, true≢false}
+use Rattle.std.proofs.lemmas.Option.{same_Some}
 use Rattle.std.specs.Prelude.{if◌then◌else◌, is_some, option_and_then, filter_map}
 use Rattle.std.specs.List.{cons_option}
 use Rattle.std.specs.Ordering.{is_lt, ordering_then}
-use Rattle.std.specs.Cmp.{first_so, second_so, tied_itself}
+use Rattle.std.specs.Cmp.{first_so, second_so}
 use Rattle.std.specs.FinMap.Entries.{is_sorted, below_all}
 use Rattle.ssa_model.specs.definitions.Json.{Text, Scalar, Json, scalar, list, object, Items, no_items, item, Members, no_members, member, member_of}
-use Rattle.ssa_model.specs.definitions.Path.{Element, field, key, value, Path, path_cmp, path_cmp_total, element_cmp, same_element}
-use Rattle.ssa_model.specs.definitions.PathMap.{get, has, paths}
+use Rattle.ssa_model.specs.definitions.Path.{Element, field, value, Path, path_cmp, element_cmp, same_element}
+use Rattle.ssa_model.specs.definitions.PathMap.{get, has}
 use Rattle.ssa_model.specs.definitions.Kind as kinds
 use Rattle.ssa_model.specs.definitions.Kind.{Kind, ScalarKind, Shape, Fields, scalar_kind, atomic_of, record_of, dict_of, items_of, kind_of, is_among, item_key, key_scalars}
 use Rattle.ssa_model.specs.definitions.Body.{Body, flat, order_at, value_order, key_order, without_empty_metadata}
@@ -28,13 +28,13 @@ use Rattle.ssa_model.proofs.PartValues.{cmp-below}
 use Rattle.ssa_model.proofs.ReachedFits.{own-content}
 use Rattle.ssa_model.proofs.Reaching.{Standing, level, member_level, item_at, reached, reached-push, content_at, found-field, found-entry, object-fields}
 use Rattle.ssa_model.proofs.RisingMembers.{rising_is_distinct}
-use Rattle.ssa_model.proofs.RisingNames.{before, do_rise, rest-rise}
+use Rattle.ssa_model.proofs.RisingNames.{before, do_rise}
 use Rattle.ssa_model.proofs.Fitting.{some_there}
 use Rattle.ssa_model.proofs.ShownMembers.{AreShown, fields-shown, entries-shown, found-rises}
 use Rattle.ssa_model.proofs.ShownNames.{name_of, name-is, names-there, turned}
 use Rattle.ssa_model.proofs.Tables.{element-itself}
 use Rattle.ssa_model.proofs.Tests.{holds}
-use Rattle.ssa_model.proofs.Basics.{not_true as no, or_true, lower, first_false, second_false}
+use Rattle.ssa_model.proofs.Basics.{not_true as no, or_true, first_false, second_false}
 
 -- ---- the names below a path rise
 

@@ -25,7 +25,7 @@ use Rattle.ssa_model.specs.definitions.BenchFile.{IsReadBack, IsLabel, IsStep, I
 use Rattle.ssa_model.specs.definitions.Formats.{can_tell_label, can_tell_state, CanTellStep, CanTell}
 use Rattle.ssa_model.specs.laws.BenchFiles.{text_lines, spelled_values, given_if, is_written_as, Head, head_in, schema_in, lone_in, said_label, is_label, label_in, keeps_order, step_with, step_in, steps_in, with_steps, values_bench, bench_in, BenchFilesAreTaken}
 use Rattle.ssa_model.proofs.LoneBenches.{lone-parts}
-use Rattle.ssa_model.proofs.ShownStates.{shown_state_is_taken, shown_state_is_deep}
+use Rattle.ssa_model.proofs.ShownStates.{shown_state_is_deep}
 use Rattle.ssa_model.proofs.SpelledValues.{text_lines-of, spelled_values-of}
 use Rattle.ssa_model.proofs.Tables.{manager-itself, same_manager-true, text-itself}
 use Rattle.ssa_model.proofs.Tests.{pointwise-true, pointwise-itself}

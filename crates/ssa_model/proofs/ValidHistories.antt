@@ -1,5 +1,5 @@
 -- Histories as commands make them, and the step that an accepted command adds.
-use Rattle.std.proofs.Common.{◌≡◌, ℕ, zero, suc, ◌==◌, ◌-◌, ◌+◌, ◌<◌, ◌≤◌, List, [], ◌∷◌, ◌++◌, Bool, true, false, not, take, length, min, nat_le, refl, sym, ap, subst, ◌∙◌, arith, nat_lt, true≢false}
+use Rattle.std.proofs.Common.{◌≡◌, ℕ, zero, suc, ◌==◌, ◌-◌, ◌+◌, ◌≤◌, List, [], ◌∷◌, ◌++◌, Bool, true, false, not, take, length, min, refl, sym, ap, subst, ◌∙◌, arith, nat_lt, true≢false}
 use Rattle.std.proofs.Math.Nat.{min-le_left}
 use Rattle.std.proofs.lemmas.Bool.Decides.{nat_tests}
 use Rattle.std.proofs.lemmas.List.{length-append, length-take}
@@ -13,8 +13,8 @@ use Rattle.ssa_model.specs.definitions.Table.{owned_by, Table, ManagerKey, key_o
 use Rattle.ssa_model.specs.definitions.Parts.{Actor, part_of, spliced}
 use Rattle.ssa_model.specs.definitions.Operations as operations
 use Rattle.ssa_model.specs.definitions.Operations.{State, Refusal}
-use Rattle.ssa_model.specs.definitions.History.{moved_to, advanced, forgotten, held, future_len, Label, applied, updated, stripped, Step, Bench, last_state, present, past_len, appended, with_timeline, is_manager_name}
-use Rattle.ssa_model.specs.definitions.Answers.{lone_state, Answer, Command, apply, update, strip, undo, redo, show, owners, log, Changed, changed, Fault, fault, moved, nothing_to_undo, nothing_to_redo, refused, manager_name, no_subresource, has_part, command_body, accept, accept_or_refuse, apply_answer, with_body, answer}
+use Rattle.ssa_model.specs.definitions.History.{moved_to, advanced, forgotten, future_len, Label, applied, updated, stripped, Step, Bench, last_state, present, past_len, appended, with_timeline, is_manager_name}
+use Rattle.ssa_model.specs.definitions.Answers.{lone_state, Answer, Command, apply, update, strip, undo, redo, show, owners, log, Fault, fault, moved, nothing_to_undo, nothing_to_redo, refused, manager_name, no_subresource, has_part, command_body, accept, accept_or_refuse, apply_answer, with_body, answer}
 use Rattle.ssa_model.specs.definitions.Effect.{is_accepted}
 use Rattle.ssa_model.specs.definitions.Valid.{MakesValid, IsValidHistory, IsValidState, has_distinct_keys, KeepsOrder, KeepsOrders, MakesNamed, IsNextStep}
 use Rattle.ssa_model.specs.laws.KeepsValid.{AcceptedGoesOn, NextKeepsHistory}

@@ -1,5 +1,5 @@
 -- The answer to a command, and a run of commands.
-use Rattle.std.specs.Prelude.{ℕ, ◌+◌, ◌-◌, List, [], ◌∷◌, Bool, true, false, not, ◌&&◌, ◌==◌, length, Some, None, is_some, Result, Ok, Err, if◌then◌else◌, nat_lt, nat_le, codes, map, filter, take, drop}
+use Rattle.std.specs.Prelude.{ℕ, ◌+◌, ◌-◌, List, [], ◌∷◌, Bool, true, false, not, ◌&&◌, ◌==◌, length, Some, None, is_some, Result, Ok, Err, if◌then◌else◌, nat_lt, codes, map, filter, take, drop}
 use Rattle.ssa_model.specs.definitions.Json.{Text, Json, scalar, list, object}
 use Rattle.ssa_model.specs.definitions.Limits.{most_places, most_past}
 use Rattle.ssa_model.specs.definitions.Schema.{Schema}

@@ -1,6 +1,6 @@
 -- Valid tables, states and histories.
-use Rattle.std.specs.Prelude.{◌<◌, ℕ, ◌≡◌, ◌≤◌, [], ◌∷◌, Bool, true, false, not, ◌&&◌, List, map, filter, length, Some, codes}
-use Rattle.ssa_model.specs.definitions.Limits.{most_places, most_managers, most_past}
+use Rattle.std.specs.Prelude.{ℕ, ◌≡◌, ◌≤◌, [], ◌∷◌, Bool, true, false, not, ◌&&◌, List, map, filter, length, Some, codes}
+use Rattle.ssa_model.specs.definitions.Limits.{most_places, most_managers}
 use Rattle.ssa_model.specs.definitions.Path.{Path, field}
 use Rattle.ssa_model.specs.definitions.PathMap.{PathSet, get, has, is_empty, size}
 use Rattle.ssa_model.specs.definitions.Kind.{Kind}

@@ -1,7 +1,7 @@
 -- Worked examples of a bounded depth of undo.
 use Rattle.std.specs.Prelude.{◌≡◌, ℕ, List, [], ◌∷◌, ◌++◌, codes, false, map}
 use Rattle.ssa_model.specs.definitions.Json.{Text}
-use Rattle.ssa_model.specs.definitions.History.{Bench, past_len, future_len}
+use Rattle.ssa_model.specs.definitions.History.{Bench}
 use Rattle.ssa_model.specs.definitions.Answers.{Command, apply, undo, redo, show, log, run}
 use Rattle.ssa_model.specs.definitions.Replies.{reply_text}
 use Rattle.ssa_model.specs.definitions.Effect.{in_effect, label_of}

@@ -2,7 +2,6 @@
 use Rattle.std.specs.Prelude.{◌≡◌, ℕ, zero, suc, List, [], ◌∷◌, Result, Ok, Err, codes, false}
 use Rattle.ssa_model.specs.definitions.Json.{Text, Json, list, object, scalar, truth, no_items, item, Members, no_members, member, same_text}
 use Rattle.ssa_model.specs.definitions.History.{Bench, applied, past_len, present, with_timeline}
-use Rattle.ssa_model.specs.definitions.Answers as answers
 use Rattle.ssa_model.specs.definitions.Answers.{strip, answer, run}
 use Rattle.ssa_model.specs.definitions.Readings.{ReadFault, Readings, not_json, null_value, number_outside}
 use Rattle.ssa_model.specs.definitions.Session.{line_answer}
