@@ -14,7 +14,7 @@ returns-in-Fits c =
     let k = kind_view c.args.kind.now in
     let v = view c.args.value in
     let n = c.in-Fits.tree in
-    let made = subst (IsTested (faults k v) (IsTreeOf k v)) c.in-Fits.is c.in_ok-tested_tree.ensures in
+    let made = subst (IsTested (faults k v) (IsTreeOf k v)) c.in-Fits.is c.in_ok-tree.ensures in
     let none = no-first (faults k v []) (made.0 []) in
     record {
       fits = none;
