@@ -117,18 +117,6 @@ many-places n m is h = grind (arith, min-eq_left, min-eq_right)
 pub few-places : (n m : ℕ) → n ≡ min m (2 ^ 64 - 1) → n ≤ most_places → m ≤ most_places
 few-places n m is h = grind (arith, min-eq_left, min-eq_right)
 
--- a body that is found to have too many places has too many
-pub too-many : (found : Bool) (made body : bodies.Body) → made ≡ body → (found ≡ true → most_places < size made) → found ≡ true → most_places < size body
-too-many found made body is h t = subst (λ b. most_places < size b) is (h t)
-
--- one that is not has few enough
-pub few-enough : (found : Bool) (made body : bodies.Body) → made ≡ body → (most_places < size made → found ≡ true) → found ≡ false → size body ≤ most_places
-few-enough found made body is h f =
-    elim (ltb most_places (size body)) as (λ t. ltb most_places (size body) ≡ t → size body ≤ most_places) [
-      | true ↦ λ more. yes_no found (h (subst (λ b. most_places < size b) (sym is) (ltb-true most_places (size body) more))) f
-      | false ↦ λ few. ltb-false most_places (size body) few
-    ] refl
-
 -- ---- the change
 
 -- an Apply whose managers all have a place makes its change, which leads to the new body and the new table

@@ -1,30 +1,26 @@
 -- The body after an Apply is its configuration over the live body, without the places that the live body loses.
-use Rattle.std.proofs.Common.{◌≡◌, ◌<◌, ◌≤◌, ◌+◌, List, [], ◌∷◌, ◌++◌, length, Bool, true, false, not, ◌&&◌, ◌||◌, cond, refl, sym, ap, subst, ◌∙◌, arith}
-use Rattle.std.proofs.lemmas.List.{length-append, length-map}
-use Rattle.std.proofs.lemmas.List.Folds.{list_any-append}
+use Rattle.std.proofs.Common.{◌≡◌, ℕ, suc, ◌<◌, ◌+◌, ◌-◌, ◌^◌, min, List, [], ◌∷◌, length, Bool, true, false, not, ◌&&◌, ◌||◌, cond, Some, None, refl, sym, ap, subst, ◌∙◌, arith}
+use Rattle.std.proofs.lemmas.List.{length-map}
 use Rattle.std.specs.Cmp.{first_so, second_so}
-use Rattle.std.specs.Prelude.{Option, Some, None, filter_map, option_map}
-use Rattle.std.specs.List.{cons_option}
-use Rattle.ssa_model.specs.definitions.Limits.{most_places}
-use Rattle.ssa_model.specs.definitions.Path.{Path, is_root, same_path, under}
-use Rattle.ssa_model.specs.definitions.PathMap.{PathSet, empty, get, has, has_at_or_below, is_empty, map_of, paths, set_of, size}
+use Rattle.ssa_model.specs.definitions.Path.{Path, is_root, under}
+use Rattle.ssa_model.specs.definitions.PathMap.{PathSet, empty, has, has_at_or_below, is_empty, paths, set_of, size}
 use Rattle.ssa_model.specs.definitions.Body as model
-use Rattle.ssa_model.specs.definitions.Body.{added, is_point, over, over_content, points, removed, restricted}
+use Rattle.ssa_model.specs.definitions.Body.{over, points, removed, restricted}
 use Rattle.ssa_model.specs.definitions.Table.{ManagerKey}
 use Rattle.ssa_model.specs.definitions.Operations.{State, dropped, kept, pruned}
 use Rattle.ssa_model.specs.definitions.Valid.{AllEntries, IsRooted, OwnsOwnable}
 use Rattle.ssa_model.proofs.Basics.{and-false, not_true, or_true, yes_no}
-use Rattle.ssa_model.proofs.PathMaps.{get-map_of, has-paths, has-set_of, is_one_of, same_map}
-use Rattle.ssa_model.proofs.RecordSizes.{length-entries, length-found}
+use Rattle.ssa_model.proofs.MapEntries.{counted, size-map}
+use Rattle.ssa_model.proofs.PathMaps.{has-paths, has-set_of, is_one_of}
+use Rattle.ssa_model.proofs.Sums.{total}
 use Rattle.ssa_model.proofs.Tables.{apart_by, either, has-over, has-restricted, true_or}
 use Rattle.ssa_typed.specs.Alike.{AreAlike}
 use Rattle.ssa_typed.specs.Applied.{MayGo, applied}
+use Rattle.ssa_typed.specs.NewPlaces.{Brings}
 use Rattle.ssa_typed.specs.Reached.{PartsAreOfPlaces, PointsTellPlaces}
+use Rattle.ssa_typed.proofs.Bringing.{same-size}
 use Rattle.ssa_typed.proofs.RootedBodies.{over-rooted}
 use Rattle.ssa_typed.proofs.LostPlaces.{below-one}
-use Rattle.ssa_merge.specs.Plans.{HasRoom, body_after}
-use Rattle.ssa_merge.specs.declared.change.NewBody.{NewBody}
-use Rattle.ssa_merge.specs.declared.change.NewBody.TheVariants.{Over}
 use Rattle.ssa_merge.proofs.GivenUp.{points-stay}
 use Rattle.ssa_merge.proofs.HeldAbove.{one-below}
 use Rattle.ssa_merge.proofs.KeptPlaces.{below-above}
@@ -137,102 +133,74 @@ all-goes live config gone may told p q goes u there =
     either (has live q) (has config q) (sym (has-over live config q) ∙ there) (may.whole p q goes u)
     (λ given. absurd (yes_no (has gone p) goes (may.kept p (place-above config told p q u given))))
 
+-- what is lost was there
+pub lost-there : (live after : model.Body) (gone : PathSet) → gone ≡ removed live after → (p : Path) → has gone p ≡ true → has live p ≡ true
+lost-there live after gone is p goes =
+    has-paths live p
+    ∙ first_so (is_one_of (paths live) p) (not (has after p))
+    (sym (has-set_of (paths live) (λ q. not (has after q)) p) ∙ ap (λ s. has s p) (sym is) ∙ goes)
+
 -- ---- how many places
 
--- a map of these paths has no more places than there are paths
-size-of : {X : Type 0} (ps : List Path) (f : Path → Option X) → size (map_of ps f) ≤ length ps
-size-of {X} ps f =
-    let found : List (Path × X) = filter_map (λ p. option_map (λ x. (p, x)) (f p)) ps in
-    let a : size (map_of ps f) ≤ length found = length-entries found in
-    let b : length found ≤ length ps = length-found (λ p. option_map (λ x. (p, x)) (f p)) ps in
-    omega arith
+-- a path counts where it passes a test
+abbrev count : Bool → ℕ
+count b = counted (λ (u : Unit {0}). 1) (cond b (Some tt) None)
 
-size-paths : (b : model.Body) → length (paths b) ≡ size b
-size-paths b = length-map b.entries (λ e. e.0)
-
--- ---- a configuration over a live body has no more places than that has, and it adds points, and has places that are no points
-
--- those of a list that pass a test
-abbrev passing : (Path → Bool) → List Path → List (Path × Unit {0})
-passing test ps = filter_map (λ p. option_map (λ x. (p, x)) (cond (test p) (Some tt) None)) ps
-
-abbrev put_passing : Path → Bool → List (Path × Unit {0}) → List (Path × Unit {0})
-put_passing p b xs = cons_option (option_map (λ x. (p, x)) (cond b (Some tt) None)) xs
-
--- those of a list that pass a test and those that do not are all of it
-all-passing : (test : Path → Bool) (ps : List Path) → length (passing test ps) + length (passing (λ p. not (test p)) ps) ≡ length ps
-all-passing test [] = refl
-all-passing test (p ∷ ps) = one (test p) (all-passing test ps)
+-- the paths that pass a test, and those that do not, are all
+total-split : (test : Path → Bool) (ps : List Path) → total (λ p. count (test p)) ps + total (λ p. count (not (test p))) ps ≡ length ps
+total-split test [] = refl
+total-split test (p ∷ ps) = one (test p) (total-split test ps)
   where
-    one : (b : Bool) → length (passing test ps) + length (passing (λ q. not (test q)) ps) ≡ length ps
-        → length (put_passing p b (passing test ps)) + length (put_passing p (not b) (passing (λ q. not (test q)) ps)) ≡ length (p ∷ ps)
+    one : (b : Bool) → total (λ q. count (test q)) ps + total (λ q. count (not (test q))) ps ≡ length ps
+        → (count b + total (λ q. count (test q)) ps) + (count (not b) + total (λ q. count (not (test q))) ps) ≡ suc (length ps)
     one true h = omega arith
     one false h = omega arith
 
--- the places of a body that are no points
-abbrev inner : model.Body → PathSet
-inner b = set_of (paths b) (λ p. not (is_point b p))
-
-inner-few : (b : model.Body) → size (inner b) + size (points b) ≤ size b
-inner-few b =
-    let i : size (inner b) ≤ length (passing (λ p. not (is_point b p)) (paths b)) = length-entries (passing (λ p. not (is_point b p)) (paths b)) in
-    let o : size (points b) ≤ length (passing (is_point b) (paths b)) = length-entries (passing (is_point b) (paths b)) in
-    let all : length (passing (is_point b) (paths b)) + length (passing (λ p. not (is_point b p)) (paths b)) ≡ length (paths b) =
-    all-passing (is_point b) (paths b) in
-    let e = size-paths b in
+size-split : (v : model.Body) (test : Path → Bool) → size (set_of (paths v) test) + size (set_of (paths v) (λ p. not (test p))) ≡ size v
+size-split v test =
+    let yes : size (set_of (paths v) test) ≡ total (λ p. count (test p)) (paths v) = size-map v (λ p. cond (test p) (Some tt) None) in
+    let no : size (set_of (paths v) (λ p. not (test p))) ≡ total (λ p. count (not (test p))) (paths v) =
+    size-map v (λ p. cond (not (test p)) (Some tt) None) in
+    let all = total-split test (paths v) in
+    let long : length (paths v) ≡ size v = length-map v.entries (λ e. e.0) in
     omega arith
 
-over-apart : (live config : model.Body)
-    → over live config ≡ map_of (paths live ++ (paths (added live config) ++ paths (inner config))) (λ p. over_content (get live p) (get config p))
-over-apart live config = same_map (over live config) _ (λ p.
-    get-map_of (paths live ++ paths config) (λ q. over_content (get live q) (get config q)) p
-    ∙ ap (λ b. cond b (over_content (get live p) (get config p)) None)
-    (list_any-append (same_path p) (paths live) (paths config)
-    ∙ apart (has live p) (has config p) (is_point config p) (is_one_of (paths live) p) (is_one_of (paths config) p) (has (points config) p)
-    (is_one_of (paths (added live config)) p) (is_one_of (paths (inner config)) p) (has-paths live p) (has-paths config p)
-    (has-set_of (paths config) (is_point config) p)
-    (sym (has-paths (added live config) p) ∙ has-set_of (paths (points config)) (λ q. not (has live q)) p
-    ∙ ap (λ b. b && not (has live p)) (sym (has-paths (points config) p)))
-    (sym (has-paths (inner config) p) ∙ has-set_of (paths config) (λ q. not (is_point config q)) p)
-    ∙ ap (λ b. is_one_of (paths live) p || b) (sym (list_any-append (same_path p) (paths (added live config)) (paths (inner config))))
-    ∙ sym (list_any-append (same_path p) (paths live) (paths (added live config) ++ paths (inner config))))
-    ∙ sym (get-map_of (paths live ++ (paths (added live config) ++ paths (inner config))) (λ q. over_content (get live q) (get config q)) p))
-  where
-    apart : (h k t l c o a n : Bool) → h ≡ l → k ≡ c → o ≡ (c && t) → a ≡ (o && not h) → n ≡ (c && not t) → (l || c) ≡ (l || (a || n))
-    apart h k t true c o a n hl kc oc an nt = refl
-    apart h k t false false o a n hl kc oc an nt = (λ i. sym (an ∙ (λ j. oc j && not (hl j))) i || sym nt i)
-    apart h k true false true o a n hl kc oc an nt = (λ i. sym (an ∙ (λ j. oc j && not (hl j))) i || n)
-    apart h k false false true o a n hl kc oc an nt = (λ i. sym (an ∙ (λ j. oc j && not (hl j))) i || sym nt i)
+module _ (live config : model.Body) (gone : PathSet) (there : (p : Path) → has gone p ≡ true → has live p ≡ true) where
+  abbrev whole : model.Body
+  whole = over live config
 
--- a configuration over a live body has no more places than both have
-pub few-together : (live config : model.Body) → size (over live config) ≤ size live + size config
-few-together live config =
-    let made : size (over live config) ≤ length (paths live ++ paths config) = size-of (paths live ++ paths config) (λ p. over_content (get live p) (get config p)) in
-    let all : length (paths live ++ paths config) ≡ length (paths live) + length (paths config) = length-append (paths live) (paths config) in
-    let l = size-paths live in
-    let c = size-paths config in
-    omega arith
+  goes : (p : Path) → has gone p ≡ has (set_of (paths whole) (has gone)) p
+  goes p =
+      part (has gone p) (has whole p) (λ h. has-over live config p ∙ true_or (has live p) (has config p) (there p h))
+      ∙ sym (has-set_of (paths whole) (has gone) p ∙ ap (λ b. b && has gone p) (sym (has-paths whole p)))
+    where
+      part : (a b : Bool) → (a ≡ true → b ≡ true) → a ≡ (b && a)
+      part true b h = ap (λ c. c && true) (sym (h refl))
+      part false b h = sym (and-false b)
 
-pub few-over : (live config : model.Body) → size (over live config) + size (points config) ≤ size live + (size (added live config) + size config)
-few-over live config =
-    let more : List Path = paths (added live config) ++ paths (inner config) in
-    let made : size (map_of (paths live ++ more) (λ p. over_content (get live p) (get config p))) ≤ length (paths live ++ more) =
-    size-of (paths live ++ more) (λ p. over_content (get live p) (get config p)) in
-    let b : size (over live config) ≤ length (paths live ++ more) = subst (λ m. size m ≤ length (paths live ++ more)) (sym (over-apart live config)) made in
-    let c : length (paths live ++ more) ≡ length (paths live) + length more = length-append (paths live) more in
-    let d : length more ≡ length (paths (added live config)) + length (paths (inner config)) = length-append (paths (added live config)) (paths (inner config)) in
-    let e = size-paths live in
-    let f : length (paths (added live config)) ≡ size (added live config) = length-map (added live config).entries (λ x. x.0) in
-    let g : length (paths (inner config)) ≡ size (inner config) = length-map (inner config).entries (λ x. x.0) in
-    let few = inner-few config in
-    omega arith
+  stays : (p : Path) → has (applied live config gone) p ≡ has (set_of (paths whole) (λ q. not (has gone q))) p
+  stays p =
+      has-restricted whole (λ q. not (has gone q)) p
+      ∙ turned (not (has gone p)) (has whole p)
+      ∙ sym (has-set_of (paths whole) (λ q. not (has gone q)) p ∙ ap (λ b. b && not (has gone p)) (sym (has-paths whole p)))
+    where
+      turned : (a b : Bool) → (a && b) ≡ (b && a)
+      turned true true = refl
+      turned true false = refl
+      turned false b = sym (and-false b)
 
--- where the two have no more together than a body may have, it has not too many
-pub never-too-many : (after : NewBody) (config live : model.Body) (gone : PathSet) → after ≡ Over config → HasRoom after live
-    → most_places < size (body_after after gone live) → ⊥
-never-too-many after config live gone is room more =
-    let fits : size (over live config) ≤ most_places = subst (λ b. HasRoom b live) is room in
-    let over_limit : most_places < size (applied live config gone) = subst (λ b. most_places < size (body_after b gone live)) is more in
-    let few : size (applied live config gone) ≤ length (paths (over live config)) = size-of (paths (over live config)) _ in
-    let all = size-paths (over live config) in
-    omega arith
+  -- the body after has as many places as the two together, less those that go
+  pub size-applied : size (applied live config gone) + size gone ≡ size whole
+  size-applied =
+      let kept = same-size (applied live config gone) (set_of (paths whole) (λ q. not (has gone q))) stays in
+      let lost = same-size gone (set_of (paths whole) (has gone)) goes in
+      let all = size-split whole (has gone) in
+      omega arith
+
+  -- so they are told by what there was, what comes and what goes, as long as 64 bits tell it
+  pub places-told : (own new together less places : ℕ) → Brings live config new → own ≡ min (size live) (2 ^ 64 - 1)
+      → together ≡ min (own + new) (2 ^ 64 - 1) → together < 2 ^ 64 - 1 → less ≡ min (size gone) (2 ^ 64 - 1) → places ≡ together - less
+      → places ≡ min (size (applied live config gone)) (2 ^ 64 - 1)
+  places-told own new together less places (more, brings, new_is) own_is sum few less_is is =
+      let all = size-applied in
+      omega arith

@@ -1,9 +1,8 @@
 -- What plans and changes say.
-use Rattle.std.specs.Prelude.{◌≡◌, ◌≤◌, List, Bool, true, not, ◌||◌, if◌then◌else◌, Option, Some, None, Result, Ok, Err}
-use Rattle.ssa_model.specs.definitions.Body.{Body, over}
-use Rattle.ssa_model.specs.definitions.Limits.{most_places}
+use Rattle.std.specs.Prelude.{◌≡◌, List, Bool, true, not, ◌||◌, if◌then◌else◌, Option, Some, None, Result, Ok, Err}
+use Rattle.ssa_model.specs.definitions.Body.{Body}
 use Rattle.ssa_model.specs.definitions.Operations as model
-use Rattle.ssa_model.specs.definitions.PathMap.{PathSet, size}
+use Rattle.ssa_model.specs.definitions.PathMap.{PathSet}
 use Rattle.ssa_model.specs.definitions.Valid.{has_distinct_keys, IsRooted, KeepsOrder}
 use Rattle.ssa_typed.specs.Alike.{AreAlike}
 use Rattle.ssa_typed.specs.Applied.{MayGo, applied}
@@ -58,12 +57,6 @@ abbrev pub CanStand : NewBody → PathSet → Body → Type 0
 CanStand (Over c) gone b = AreAlike b c × MayGo b c gone × IsRooted (applied b c gone) × KeepsItemOrder b c
 CanStand Same gone b = Unit {0}
 CanStand (Whole c) gone b = Unit {0}
-
--- where a configuration is put over the body, the two have no more places together than a body may have
-abbrev pub HasRoom : NewBody → Body → Type 0
-HasRoom (Over c) b = size (over b c) ≤ most_places
-HasRoom Same b = Unit {0}
-HasRoom (Whole c) b = Unit {0}
 
 -- the state after a change
 abbrev pub changed_state : model.State → NewBody → PathSet → TableChange → model.State

@@ -1,7 +1,6 @@
 //! What a command makes of the body: told by what comes and goes, so that nothing of it is made that stays.
-ghost use Rattle.std.specs.Prelude.{◌≡◌, ◌<◌, ◌≤◌, ◌+◌, ◌↔◌, true, IfOk, IfSome, IsTrue};
-ghost use Rattle.ssa_model.specs.definitions.Body.{added, over, points, removed};
-ghost use Rattle.ssa_model.specs.definitions.Limits.{most_places};
+ghost use Rattle.std.specs.Prelude.{◌≡◌, ◌-◌, ◌^◌, min, true, IfOk};
+ghost use Rattle.ssa_model.specs.definitions.Body.{points, removed};
 ghost use Rattle.ssa_model.specs.definitions.Operations.{pruned};
 ghost use Rattle.ssa_model.specs.definitions.PathMap.{size, PathSet};
 ghost use Rattle.ssa_model.specs.definitions.Table.{owned_by};
@@ -10,8 +9,9 @@ ghost use Rattle.ssa_typed.specs.Alike.{AreAlike};
 ghost use Rattle.ssa_typed.specs.Applied.{MayGo, applied};
 ghost use Rattle.ssa_typed.specs.Differences.{IsComparison, IsPartComparison};
 ghost use Rattle.ssa_typed.specs.KeepsOrder.{KeepsItemOrder};
+ghost use Rattle.ssa_typed.specs.NewPlaces.{Brings};
 ghost use Rattle.ssa_merge.specs.Managers.{key_view};
-ghost use Rattle.ssa_merge.specs.Plans.{body_after, CanStand, HasRoom};
+ghost use Rattle.ssa_merge.specs.Plans.{body_after, CanStand};
 ghost use Rattle.ssa_merge.specs.States.{state_view};
 
 use crate::change::NewBody;
@@ -19,7 +19,7 @@ use crate::given_up::{given_up, lost};
 use crate::manager::ManagerKey;
 use crate::state::State;
 use ssa_path::field_set::FieldSet;
-use ssa_typed::body::{Body, MOST_PLACES};
+use ssa_typed::body::Body;
 use ssa_typed::compare::Comparison;
 use ssa_typed::part::PartComparison;
 use std::alloc::{AllocError, Global};
@@ -53,72 +53,26 @@ pub fn laid_over(
     merged.without(alloc, gone)
 }
 
-// Whether the places of both together are no more than a body may have.
-fn are_few_together(live: &Body, config: &Body) -> bool
-    ensures { IsTrue result ↔ (size live.now + size config.now ≤ most_places) }
-{
-    live.size().saturating_add(config.size()) <= MOST_PLACES
-}
-
-// How many places a configuration has that are no points (records, lists and Dicts with something below them), none where it
-// has more places than a body may have.
-fn count_inner(config: &Body, config_points: &FieldSet) -> Option<usize>
-    ensures { IfSome result (λ inner. size config.now ≤ inner + size config_points.now) }
-{
-    let places = config.size();
-    if places > MOST_PLACES {
-        return None;
-    }
-    Some(places.saturating_sub(config_points.len()))
-}
-
-// Whether the live body's places, these points and so many more places are no more than a body may have.
-fn are_few(live: &Body, added_points: &FieldSet, inner: usize) -> bool
-    ensures { IsTrue result ↔ (size live.now + (size added_points.now + inner) ≤ most_places) }
-{
-    let more = added_points.len().saturating_add(inner);
-    live.size().saturating_add(more) <= MOST_PLACES
-}
-
-// Whether a configuration over the live body is told to have no more places than a body may have: mostly those of both are so few.
-// Else they are counted as those of the live body, the points that it adds, and as many more as the configuration has places that
-// are no points.
-fn has_room(live: &Body, config: &Body, added_points: &FieldSet, config_points: &FieldSet) -> bool
-    requires added { added_points.now ≡ added live.now config.now }
-    requires points { config_points.now ≡ points config.now }
-    ensures { result ≡ true → size (over live.now config.now) ≤ most_places }
-{
-    if are_few_together(live, config) {
-        return true;
-    }
-    match count_inner(config, config_points) {
-        Some(inner) => are_few(live, added_points, inner),
-        None => false,
-    }
-}
-
-// The body after an Apply by which the live body loses these places. The configuration is put over the live body only
-// where that could have too many places, so that they are counted, and where it has some items in another order, which are
-// then exchanged by what the whole body after tells.
+// The body after an Apply by which the live body loses these places, and how many it has: as many as the live body and those that the
+// configuration brings, less those that go. The configuration is put over the live body only where it has some items in another order,
+// which are then exchanged by what the whole body after tells (or where no `usize` tells so many places).
 fn applied_body(
     alloc: Global,
     state: &State,
     key: &ManagerKey,
     config: Body,
     in_order: bool,
-    config_points: &FieldSet,
-    added_points: &FieldSet,
+    new_places: usize,
     gone: &FieldSet,
-) -> Result<NewBody, AllocError>
+) -> Result<(NewBody, usize), AllocError>
     requires alike { AreAlike state.now.body config }
-    requires points { config_points.now ≡ points config }
-    requires added { added_points.now ≡ added state.now.body config }
+    requires brings { Brings state.now.body config new_places }
     requires order { in_order ≡ true → KeepsItemOrder state.now.body config }
     requires owned { AllEntries (OwnsOwnable state.now.body) state.now.managers }
     requires gone { gone.now ≡ removed state.now.body (pruned (state_view state.now) (key_view key.now) config) }
-    ensures body { IfOk result (λ b. body_after b gone.now state.now.body ≡ pruned (state_view state.now) (key_view key.now) config) }
-    ensures stands { IfOk result (λ b. CanStand b gone.now state.now.body) }
-    ensures room { IfOk result (λ b. HasRoom b state.now.body) }
+    ensures body { IfOk result (λ b. body_after b.0 gone.now state.now.body ≡ pruned (state_view state.now) (key_view key.now) config) }
+    ensures stands { IfOk result (λ b. CanStand b.0 gone.now state.now.body) }
+    ensures places { IfOk result (λ b. b.1 ≡ min (size (body_after b.0 gone.now state.now.body)) (2 ^ 64 - 1)) }
 {
     state.body.points_tell_places();
     config.points_tell_places();
@@ -126,18 +80,24 @@ fn applied_body(
     config.parts_are_of_places();
     state.body.stands_rooted();
     config.stands_rooted();
-    if in_order && has_room(&state.body, &config, added_points, config_points) {
-        return Ok(NewBody::Over(config));
+    if in_order {
+        let together = state.body.size().saturating_add(new_places);
+        if together < usize::MAX {
+            return Ok((NewBody::Over(config), together.saturating_sub(gone.len())));
+        }
     }
     let body = laid_over(alloc, &state.body, config, gone)?;
-    Ok(NewBody::Whole(body))
+    let places = body.size();
+    Ok((NewBody::Whole(body), places))
 }
 
-/// What an Apply makes of the body, and how it then differs from the one before.
+/// What an Apply makes of the body, how it then differs from the one before, and how many places it has: `usize::MAX` where there
+/// are more.
 #[derive(Drop)]
 pub struct BodyChange {
     pub body: NewBody,
     pub comparison: Comparison,
+    pub places: usize,
 }
 
 /// What an Apply of a configuration makes of the body, where it is told how the configuration differs from the live body.
@@ -160,7 +120,7 @@ pub fn body_change(
     ensures body { IfOk result (λ m. body_after m.body m.comparison.removed state.now.body ≡ pruned (state_view state.now) (key_view key.now) config) }
     ensures comparison { IfOk result (λ m. IsComparison state.now.body (pruned (state_view state.now) (key_view key.now) config) m.comparison) }
     ensures stands { IfOk result (λ m. CanStand m.body m.comparison.removed state.now.body) }
-    ensures room { IfOk result (λ m. HasRoom m.body state.now.body) }
+    ensures places { IfOk result (λ m. m.places ≡ min (size (body_after m.body m.comparison.removed state.now.body)) (2 ^ 64 - 1)) }
 {
     let gone = given_up(alloc, state, key, &config, config_points, keeps)?;
     state.body.points_tell_places();
@@ -172,19 +132,12 @@ pub fn body_change(
         return Ok(BodyChange {
             body: NewBody::Same,
             comparison,
+            places: state.body.size(),
         });
     }
     let removed = lost(alloc, state, key, &config, &gone)?;
-    let body = applied_body(
-        alloc,
-        state,
-        key,
-        config,
-        in_order,
-        config_points,
-        &told.added,
-        &removed,
-    )?;
+    let new_places = told.new_places;
+    let (body, places) = applied_body(alloc, state, key, config, in_order, new_places, &removed)?;
     Ok(BodyChange {
         body,
         comparison: Comparison {
@@ -192,17 +145,6 @@ pub fn body_change(
             modified: told.modified,
             removed,
         },
+        places,
     })
-}
-
-/// Whether the body after a change has more places than it may have.
-pub fn has_too_many_places(live: &Body, after: &NewBody) -> bool
-    requires { HasRoom after.now live.now }
-    ensures { (gone : PathSet) → IsTrue result ↔ (most_places < size (body_after after.now gone live.now)) }
-{
-    match after {
-        NewBody::Same => live.size() > MOST_PLACES,
-        NewBody::Whole(body) => body.size() > MOST_PLACES,
-        NewBody::Over(_) => false,
-    }
 }

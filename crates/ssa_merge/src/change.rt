@@ -1,10 +1,10 @@
 //! What a command changes of a state, told without what stays.
-ghost use Rattle.std.specs.Prelude.{◌≡◌, true, if◌then◌else◌, unwrap_or, IfOk, None};
+ghost use Rattle.std.specs.Prelude.{◌≡◌, ◌-◌, ◌^◌, min, true, if◌then◌else◌, unwrap_or, IfOk, None};
 ghost use Rattle.ssa_model.specs.definitions.Body.{Body as ModelBody, modified, points};
 ghost use Rattle.ssa_model.specs.definitions.Fitting.{IsBodyOf};
 ghost use Rattle.ssa_model.specs.definitions.History.{is_manager_name};
 ghost use Rattle.ssa_model.specs.definitions.Kind.{Kind};
-ghost use Rattle.ssa_model.specs.definitions.PathMap.{minus, union};
+ghost use Rattle.ssa_model.specs.definitions.PathMap.{minus, size, union};
 ghost use Rattle.ssa_model.specs.definitions.Table.{applies, key_of, owned_by, updates};
 ghost use Rattle.ssa_model.specs.definitions.Operations as model;
 ghost use Rattle.ssa_model.specs.definitions.Operations.{apply, apply_part, clashes, owned_outside, pruned, strip, update, update_to};
@@ -16,9 +16,9 @@ ghost use Rattle.ssa_typed.specs.Differences.{IsComparison, IsPartComparison};
 ghost use Rattle.ssa_merge.specs.InPart.{IsOfPart};
 ghost use Rattle.ssa_merge.specs.Managers.{conflict_view, key_view, operation_view};
 ghost use Rattle.ssa_merge.specs.States.{actor, state_view};
-ghost use Rattle.ssa_merge.specs.Plans.{body_after, changed_state, conflict_of, CanStand, ChangesInOrder, HasRoom, IsChange, IsChanged, IsPlan};
+ghost use Rattle.ssa_merge.specs.Plans.{body_after, changed_state, conflict_of, CanStand, ChangesInOrder, IsChange, IsChanged, IsPlan};
 
-use crate::body_change::{BodyChange, body_change, body_if_other, has_too_many_places, laid_over};
+use crate::body_change::{BodyChange, body_change, body_if_other, laid_over};
 use crate::manager::{ManagerKey, Operation};
 use crate::managers::Managers;
 use crate::owned::clashes;
@@ -138,7 +138,7 @@ fn applied_with(
 ) -> Result<Change, Refusal>
     requires named { is_manager_name (key_view key.now).name ≡ true }
     requires stands { CanStand made.body made.comparison.removed state.now.body }
-    requires room { HasRoom made.body state.now.body }
+    requires places { made.places ≡ min (size (body_after made.body made.comparison.removed state.now.body)) (2 ^ 64 - 1) }
     ensures change { (config : ModelBody) → body_after made.body made.comparison.removed state.now.body ≡ pruned (state_view state.now) (key_view key.now) config
         → IsComparison state.now.body (pruned (state_view state.now) (key_view key.now) config) made.comparison
         → conflict_of force (clashes (key_view key.now) (modified state.now.body (pruned (state_view state.now) (key_view key.now) config)) state.now.managers) ≡ None
@@ -146,8 +146,12 @@ fn applied_with(
         → IsChanged (state_view state.now) result (apply_part (state_view state.now) (key_view key.now) config force at) }
     ensures stands { IfOk result (λ c. CanStand c.body c.comparison.removed state.now.body) }
 {
-    let BodyChange { body, comparison } = made;
-    if has_too_many_places(&state.body, &body) {
+    let BodyChange {
+        body,
+        comparison,
+        places,
+    } = made;
+    if places > MOST_PLACES {
         return Err(Refusal::TooManyPaths);
     }
     let changed = &comparison.modified;

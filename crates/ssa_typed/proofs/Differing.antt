@@ -1,5 +1,5 @@
 -- The walk over two trees that tells how they differ.
-use Rattle.std.proofs.Common.{◌≡◌, ℕ, ◌+◌, inl, inr, List, [], ◌∷◌, drop, Bool, true, false, not, ◌&&◌, Option, Some, None, Less, Equal, Greater, Vec, Global, refl, sym, ap, subst, ◌∙◌, true≢false}
+use Rattle.std.proofs.Common.{◌≡◌, ℕ, ◌+◌, ◌-◌, ◌^◌, min, inl, inr, List, [], ◌∷◌, length, drop, Bool, true, false, not, ◌&&◌, Option, Some, None, Less, Equal, Greater, Vec, Global, refl, sym, ap, subst, ◌∙◌, true≢false, arith}
 use Rattle.std.specs.Prelude.{is_some, slice_get}
 use Rattle.ssa_model.specs.definitions.Path.{Element, Path, same_path}
 use Rattle.ssa_model.specs.definitions.PathMap.{PathSet, empty, get, has, paths as set_paths, listed}
@@ -15,6 +15,7 @@ use Rattle.ssa_path.specs.View.{element_view}
 use Rattle.ssa_path.proofs.Levels.{any-made, is_trie-made, one-made-root, same_path-reading}
 use Rattle.ssa_path.proofs.Orders.{both_second}
 use Rattle.ssa_typed.specs.Differences.{Difference, Added, Modified, Removed, differs, differs_here, differs_below, differs_at, told_of_lost, told_of_new, AreToldBoth, IsDiffering, IsDifference, IsToldAlone, IsToldBoth, IsToldLost}
+use Rattle.ssa_typed.specs.NewPlaces.{new_below, new_places}
 use Rattle.ssa_typed.specs.Repeating.{TreeRepeats}
 use Rattle.ssa_typed.specs.Points.{point_in, collects_of, is_point_of}
 use Rattle.ssa_typed.specs.Rows.{rows, content_at, body_of, is_tree}
@@ -27,6 +28,7 @@ use Rattle.ssa_typed.proofs.Collecting.{point-level}
 use Rattle.ssa_typed.proofs.Lookups.{content-level, content-root}
 use Rattle.ssa_typed.proofs.Looks.{get-body}
 use Rattle.ssa_typed.proofs.Making.{TellsNothing, IsMaking, making-none, making-more, making-skip, front-own, front-other, front-both}
+use Rattle.ssa_typed.proofs.NewPlaces.{new-past-both, new-past-lost, new-past-new}
 use Rattle.ssa_typed.proofs.References.{left-read}
 use Rattle.ssa_typed.proofs.Repeating.{RepeatChildren, repeat-past-both, repeat-past-lost}
 use Rattle.ssa_typed.proofs.Stands.{points-body}
@@ -203,7 +205,11 @@ comparing-removed Part d cs0 ds0 i j c out new order is same h =
     subst (IsComparing (Removed Part) d cs0 ds0 (drop (i + 1) cs0) (drop j ds0)) (sym same)
     (comparing-past-lost (Removed Part) d cs0 ds0 i j c out order is refl h)
 
--- so far all three are told: what is added, modified and removed
+-- so many places are new of the children passed, and with those of the children that are left it is all of them
+abbrev pub IsNewSoFar : (cs0 ds0 cs ds : List (Elem × Node)) → ℕ → Type 0
+IsNewSoFar cs0 ds0 cs ds count = (k : ℕ) × (count ≡ min k (2 ^ 64 - 1)) × (k + new_below cs ds ≡ new_below cs0 ds0)
+
+-- so far all is told: what is added, modified and removed, and how many places are new
 pub record AreComparing (scope : Scope) (d : Bool) (cs0 ds0 cs ds : List (Elem × Node)) (told : PartsBelow) : Type 0 where
   -- what is added among the children passed
   pub added_so_far : IsComparing Added d cs0 ds0 cs ds told.added.items
@@ -211,6 +217,8 @@ pub record AreComparing (scope : Scope) (d : Bool) (cs0 ds0 cs ds : List (Elem �
   pub modified_so_far : IsComparing Modified d cs0 ds0 cs ds told.modified.items
   -- what is removed among them
   pub removed_so_far : IsComparing (Removed scope) d cs0 ds0 cs ds told.removed.items
+  -- how many places are new among them
+  pub new_so_far : IsNewSoFar cs0 ds0 cs ds told.new_places
   -- where the flag still stands, all the children stay as they are if those that are left do
   pub repeats_so_far : told.repeats ≡ true → RepeatChildren cs ds → RepeatChildren cs0 ds0
 
@@ -228,18 +236,29 @@ module _ (scope : Scope) (d : Bool) (cs0 ds0 : List (Elem × Node)) (i j : ℕ) 
     added_so_far = comparing-past-lost Added d cs0 ds0 i j c old.added.items order is refl h.added_so_far;
     modified_so_far = comparing-past-lost Modified d cs0 ds0 i j c old.modified.items order is refl h.modified_so_far;
     removed_so_far = comparing-removed scope d cs0 ds0 i j c old.removed.items new.items order is told h.removed_so_far;
+    new_so_far =
+        let so_far = h.new_so_far in
+        let rest = new-past-lost cs0 ds0 i j h.added_so_far.own_rise h.added_so_far.others_rise c order is in
+        (so_far.0, so_far.1, ap (λ n. so_far.0 + n) (sym rest) ∙ so_far.2);
     repeats_so_far = λ all rest.
         h.repeats_so_far all (repeat-past-lost cs0 ds0 i j h.added_so_far.own_rise h.added_so_far.others_rise c order is rest);
   }
 
   -- a new child is passed: more is added
-  pub past-new : (c : Elem × Node) (new : Tries) → heads_order (drop i cs0) (drop j ds0) ≡ Some Greater → slice_get ds0 j ≡ Some c
+  pub past-new : (c : Elem × Node) (new : Tries) (own count : ℕ) → heads_order (drop i cs0) (drop j ds0) ≡ Some Greater → slice_get ds0 j ≡ Some c
       → IsToldAlone (Some Points) d c old.added.items new.items
-      → AreComparing scope d cs0 ds0 (drop i cs0) (drop (j + 1) ds0) (record old { added = new; repeats = false })
-  past-new c new order is told = record {
+      → own ≡ min (length (rows c.1)) (2 ^ 64 - 1) → count ≡ min (old.new_places + own) (2 ^ 64 - 1)
+      → AreComparing scope d cs0 ds0 (drop i cs0) (drop (j + 1) ds0) (record old { added = new; new_places = count; repeats = false })
+  past-new c new own count order is told size sum = record {
     added_so_far = comparing-new Added d cs0 ds0 i j c old.added.items new.items order is told h.added_so_far;
     modified_so_far = comparing-past-new Modified d cs0 ds0 i j c old.modified.items order is refl h.modified_so_far;
     removed_so_far = comparing-past-new (Removed scope) d cs0 ds0 i j c old.removed.items order is refl h.removed_so_far;
+    new_so_far =
+        let so_far = h.new_so_far in
+        let before = so_far.1 in
+        let all = so_far.2 in
+        let rest = new-past-new cs0 ds0 i j h.added_so_far.own_rise h.added_so_far.others_rise c order is in
+        (so_far.0 + length (rows c.1), omega arith, omega arith);
     repeats_so_far = λ all rest. absurd (true≢false (sym all));
   }
 
@@ -255,6 +274,11 @@ module _ (scope : Scope) (d : Bool) (cs0 ds0 : List (Elem × Node)) (i j : ℕ) 
         h.modified_so_far;
     removed_so_far = comparing-both (Removed scope) d cs0 ds0 i j c b old.removed.items new.removed.items order is_c is_b before after told.removed_told
         h.removed_so_far;
+    new_so_far =
+        let so_far = h.new_so_far in
+        let all = so_far.2 in
+        let rest = new-past-both cs0 ds0 i j h.added_so_far.own_rise h.added_so_far.others_rise c b order is_c is_b in
+        (so_far.0 + new_places c.1 b.1, told.new_counted so_far.0 so_far.1, omega arith);
     repeats_so_far = λ all rest.
         let both = repeats all in
         h.repeats_so_far both.0 (repeat-past-both cs0 ds0 i j h.added_so_far.own_rise h.added_so_far.others_rise c b order is_c is_b both.1 rest);
@@ -262,11 +286,12 @@ module _ (scope : Scope) (d : Bool) (cs0 ds0 : List (Elem × Node)) (i j : ℕ) 
 
 -- before the walk nothing is told of any child
 pub past-none : (scope : Scope) (d : Bool) (cs ds : List (Elem × Node)) (v : PartsBelow) → v.added.items ≡ [] → v.modified.items ≡ [] → v.removed.items ≡ []
-    → rises (elements cs) ≡ true → rises (elements ds) ≡ true → AreComparing scope d cs ds cs ds v
-past-none scope d cs ds v added_none modified_none removed_none own_rise others_rise = record {
+    → v.new_places ≡ 0 → rises (elements cs) ≡ true → rises (elements ds) ≡ true → AreComparing scope d cs ds cs ds v
+past-none scope d cs ds v added_none modified_none removed_none new_none own_rise others_rise = record {
   added_so_far = rw added_none (making-none (differs Added d) cs ds own_rise others_rise);
   modified_so_far = rw modified_none (making-none (differs Modified d) cs ds own_rise others_rise);
   removed_so_far = rw removed_none (making-none (differs (Removed scope) d) cs ds own_rise others_rise);
+  new_so_far = (0, omega arith, omega arith);
   repeats_so_far = λ all rest. rest;
 }
 

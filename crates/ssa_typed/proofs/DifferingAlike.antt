@@ -64,9 +64,9 @@ module _ (scope : Scope) (n m : Node) (cs ds : List Child) (own : cs ≡ below n
   alike-length = same-length cs ds same
 
   -- before the first child nothing is told
-  pub alike-none : (told : PartsBelow) → told.added.items ≡ [] → told.modified.items ≡ [] → told.removed.items ≡ [] → IsComparedTo 0 told
-  alike-none told added_none modified_none removed_none =
-      past-none scope (is_in_dict m) cs ds told added_none modified_none removed_none own_rise others_rise
+  pub alike-none : (told : PartsBelow) → told.added.items ≡ [] → told.modified.items ≡ [] → told.removed.items ≡ [] → told.new_places ≡ 0 → IsComparedTo 0 told
+  alike-none told added_none modified_none removed_none new_none =
+      past-none scope (is_in_dict m) cs ds told added_none modified_none removed_none new_none own_rise others_rise
 
   module _ (i : ℕ) (c b : Child) (lt : i < length cs) (is : c ≡ get_or cs i c) (other_is : b ≡ get_or ds i b) where
     other_lt : i < length ds
@@ -106,8 +106,8 @@ module _ (scope : Scope) (n m : Node) (cs ds : List Child) (own : cs ≡ below n
     none_other = let long = alike-length in drop_all i ds (omega arith)
 
     -- behind the last child all that differs is told
-    pub alike-all : AreDiffering scope n m told
-    alike-all = past-all scope (is_in_dict m) cs ds n m _ _ told refl left none_own none_other h
+    pub alike-all : is_tree m ≡ true → AreDiffering scope n m told
+    alike-all after = past-all scope (is_in_dict m) cs ds n m _ _ told refl after left none_own none_other h
 
     -- where the flag still stands, all that is below the first node stays
     pub alike-repeats : told.repeats ≡ true → ChildrenRepeat (below n) (below m)

@@ -1,5 +1,5 @@
 -- Two leaves beside one another, below which nothing stands.
-use Rattle.std.proofs.Common.{◌≡◌, inl, inr, List, [], ◌∷◌, true, false, Some, Vec, Global, refl, sym, subst, ◌∙◌, rules}
+use Rattle.std.proofs.Common.{◌≡◌, inl, inr, List, [], ◌∷◌, true, false, Some, Vec, Global, refl, sym, ap, subst, ◌∙◌, rules}
 use Rattle.ssa_model.specs.definitions.Path.{Element, Path}
 use Rattle.ssa_model.specs.definitions.Body.{is_other_leaf}
 use Rattle.ssa_path.specs.Children.{child_at}
@@ -10,6 +10,7 @@ use Rattle.ssa_path.specs.declared.trie.Trie.TheOpen.{Trie-F}
 use Rattle.ssa_path.specs.declared.trie.Trie.TheViews.{roll-Trie}
 use Rattle.ssa_path.specs.View.{element_view}
 use Rattle.ssa_typed.specs.Differences.{Difference, Added, Modified, Removed, differs, differs_at, differs_below, differs_here, AreToldBoth, IsDiffering, IsToldBoth}
+use Rattle.ssa_typed.specs.NewPlaces.{new_below, new_places}
 use Rattle.ssa_typed.specs.Points.{content_in, is_in_dict}
 use Rattle.ssa_typed.specs.Rows.{below, leaf_content}
 use Rattle.ssa_typed.specs.Same.{AreSame}
@@ -19,6 +20,7 @@ use Rattle.ssa_typed.specs.declared.node.Leaf.{Leaf}
 use Rattle.ssa_typed.specs.declared.node.Node.{Leaf as LeafOf, the_lemmas}
 use Rattle.ssa_typed.proofs.Copying.{tree-Leaf}
 use Rattle.ssa_typed.proofs.Differing.{difference-made, tells-nothing}
+use Rattle.ssa_typed.proofs.NewPlaces.{count-same, new-level}
 use Rattle.ssa_typed.proofs.OverNodes.{own-Leaf}
 use Rattle.ssa_typed.proofs.SameTrees.{same-node}
 
@@ -40,6 +42,10 @@ module _ (l k : Leaf) where
       (λ i. differs what (is_in_dict (LeafOf k)) e (child_at e (below-Leaf l i)) (child_at e (below-Leaf k i)) p)
       ∙ tells-nothing what (is_in_dict (LeafOf k)) e p
 
+  -- a leaf has no new place where another stands
+  leaf-new : new_places (LeafOf l) (LeafOf k) ≡ 0
+  leaf-new = new-level (LeafOf l) (tree-Leaf l) (LeafOf k) ∙ ap (new_below (below (LeafOf l))) (below-Leaf k)
+
   leaf-untold : (what : Difference) (f : Elem) (told : List (Elem × Trie)) → differs_here what (LeafOf l) (LeafOf k) ≡ false
       → IsToldBoth what (f, LeafOf l) (LeafOf k) told told
   leaf-untold what f told here = inr (nothing, refl)
@@ -56,6 +62,7 @@ module _ (l k : Leaf) where
       added_told = leaf-untold Added f old.added.items refl;
       modified_told = leaf-untold Modified f old.modified.items (leaf-here ∙ none);
       removed_told = leaf-untold (Removed scope) f old.removed.items refl;
+      new_counted = count-same old.new_places (new_places (LeafOf l) (LeafOf k)) leaf-new;
     }
 
     -- where it is, the place is modified, and nothing below it
@@ -70,6 +77,7 @@ module _ (l k : Leaf) where
         grown,
       );
       removed_told = leaf-untold (Removed scope) f old.removed.items refl;
+      new_counted = count-same old.new_places (new_places (LeafOf l) (LeafOf k)) leaf-new;
     }
       where
         here : Trie-F Trie

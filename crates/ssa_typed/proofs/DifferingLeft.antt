@@ -1,5 +1,5 @@
 -- What differs is told by the children that are left without those that are one.
-use Rattle.std.proofs.Common.{◌≡◌, inl, inr, List, [], ◌∷◌, Bool, true, false, not, Option, Some, None, refl, sym, ap, subst₂, ◌∙◌, true≢false}
+use Rattle.std.proofs.Common.{◌≡◌, ℕ, ◌+◌, ◌-◌, ◌^◌, min, inl, inr, List, [], ◌∷◌, Bool, true, false, not, Option, Some, None, refl, sym, ap, subst₂, ◌∙◌, true≢false, arith}
 use Rattle.ssa_model.specs.definitions.Body.{Content, leaf, atom, record_branch, dict_branch, list_branch, is_leaf, is_other_leaf}
 use Rattle.ssa_model.specs.definitions.Path.{Element, Path}
 use Rattle.ssa_path.specs.Children.{child_at}
@@ -9,6 +9,7 @@ use Rattle.ssa_path.proofs.Orders.{both_first}
 use Rattle.ssa_typed.specs.Alike.{are_branches_alike}
 use Rattle.ssa_typed.specs.Differences.{Difference, Added, Modified, Removed, differs, AreDiffering, AreUnchanged, IsDiffering, IsUntold}
 use Rattle.ssa_typed.specs.Repeating.{TreeRepeats}
+use Rattle.ssa_typed.specs.NewPlaces.{new_below}
 use Rattle.ssa_typed.specs.Points.{content_in, is_in_dict}
 use Rattle.ssa_typed.specs.Rows.{below, is_tree, own_content}
 use Rattle.ssa_typed.specs.Same.{AreLeft, IsLeft, IsSamePair}
@@ -16,9 +17,10 @@ use Rattle.ssa_typed.specs.declared.compare.PartsBelow.{PartsBelow}
 use Rattle.ssa_typed.specs.declared.compare.Scope.{Scope}
 use Rattle.ssa_typed.specs.declared.node.Node.{Node}
 use Rattle.ssa_typed.proofs.Building.{Child}
-use Rattle.ssa_typed.proofs.Differing.{AreComparing, IsComparing, tells-nothing}
+use Rattle.ssa_typed.proofs.Differing.{AreComparing, IsComparing, IsNewSoFar, tells-nothing}
 use Rattle.ssa_typed.proofs.Lookups.{content-level, content-root}
 use Rattle.ssa_typed.proofs.Making.{making-all}
+use Rattle.ssa_typed.proofs.NewPlaces.{left-new}
 use Rattle.ssa_typed.proofs.Repeating.{left-repeats, repeat-level}
 use Rattle.ssa_typed.proofs.Unchanged.{same-unchanged, untold, untold-by}
 
@@ -54,13 +56,22 @@ module _ (what : Difference) (d : Bool) (cs0 ds0 : List Child) where
         tries = made.tries;
       }
 
+-- as many places are counted as are new below the two nodes
+new-all : (cs0 ds0 : List Child) (n m : Node) (cs ds : List Child) (count : ℕ) → is_tree m ≡ true → AreLeft (below n) (below m) cs0 ds0 → ds ≡ []
+    → IsNewSoFar cs0 ds0 cs ds count → count ≡ min (new_below (below n) (below m)) (2 ^ 64 - 1)
+new-all cs0 ds0 n m cs ds count after left none (k, is, sum) =
+    let nothing : new_below cs ds ≡ 0 = ap (new_below cs) none in
+    let all = left-new n m cs0 ds0 after left in
+    omega arith
+
 -- all that differs below the two nodes is told
 pub past-all : (scope : Scope) (d : Bool) (cs0 ds0 : List Child) (n m : Node) (cs ds : List Child) (v : PartsBelow) → d ≡ is_in_dict m
-    → AreLeft (below n) (below m) cs0 ds0 → cs ≡ [] → ds ≡ [] → AreComparing scope d cs0 ds0 cs ds v → AreDiffering scope n m v
-past-all scope d cs0 ds0 n m cs ds v is left none_own none_other h = record {
+    → is_tree m ≡ true → AreLeft (below n) (below m) cs0 ds0 → cs ≡ [] → ds ≡ [] → AreComparing scope d cs0 ds0 cs ds v → AreDiffering scope n m v
+past-all scope d cs0 ds0 n m cs ds v is after left none_own none_other h = record {
   added_below = comparing-all Added d cs0 ds0 n m cs ds v.added.items is left none_own none_other h.added_so_far;
   modified_below = comparing-all Modified d cs0 ds0 n m cs ds v.modified.items is left none_own none_other h.modified_so_far;
   removed_below = comparing-all (Removed scope) d cs0 ds0 n m cs ds v.removed.items is left none_own none_other h.removed_so_far;
+  new_are = new-all cs0 ds0 n m cs ds v.new_places after left none_other h.new_so_far;
 }
 
 -- ---- where none is left from the first

@@ -58,3 +58,5 @@ pub mod Unchanged
 pub mod Values
 pub mod NumberedChildren
 pub mod InPart
+pub mod NewPlaces
+pub mod Bringing

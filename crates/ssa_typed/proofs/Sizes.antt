@@ -1,5 +1,6 @@
 -- How many places a tree has: as many as its body has paths, since its rows have each path once.
 use Rattle.std.proofs.Common.{◌≡◌, ℕ, zero, suc, ◌+◌, ◌-◌, ◌^◌, ◌<◌, ◌≤◌, List, [], ◌∷◌, ◌++◌, length, get_or, take, Bool, true, false, not, ◌&&◌, cond, Some, None, refl, sym, ap, ◌∙◌, min, arith, rules, length-append}
+use Rattle.std.proofs.lemmas.List.{take_all}
 use Rattle.std.specs.Prelude.{is_some}
 use Rattle.std.specs.List.{list_any}
 use Rattle.std.specs.FinMap.Entries.{length-put}
@@ -48,25 +49,39 @@ length-push (d ∷ cs) c =
     let front = length-first d cs in
     omega arith
 
--- so many places are at the node and in the first children
-abbrev pub IsCount : List (Elem × Node) → ℕ → Type 0
-IsCount cs count = count ≡ min (suc (length (rows_below cs))) (2 ^ 64 - 1)
+-- all places of the first children are counted, and each other child itself, as far as 64 bits go
+abbrev pub IsCount : List (Elem × Node) → ℕ → ℕ → Type 0
+IsCount cs i count = count ≡ min (length (rows_below (take i cs)) + (length cs - i)) (2 ^ 64 - 1)
 
-sum-capped : (a b c d e : ℕ) → a ≡ min (suc b) (2 ^ 64 - 1) → c ≡ min d (2 ^ 64 - 1) → e ≡ min (a + c) (2 ^ 64 - 1) → e ≡ min (suc (b + d)) (2 ^ 64 - 1)
-sum-capped a b c d e f g h = omega arith
+module _ (cs : List (Elem × Node)) (i : ℕ) (c : Elem × Node) (count : ℕ) (lt : i < length cs) (is : c ≡ get_or cs i c) (h : IsCount cs i count) where
+  longer : length (rows_below (take (i + 1) cs)) ≡ length (rows_below (take i cs)) + length (rows c.1)
+  longer = ap (λ l. length (rows_below l)) (taken-at cs i c lt is) ∙ length-push (take i cs) c
 
--- the places of the next child are counted too, as far as 64 bits go
-pub count-more : (cs : List (Elem × Node)) (i : ℕ) (c : Elem × Node) (count more sum : ℕ) → i < length cs → c ≡ get_or cs i c
-    → more ≡ min (length (rows c.1)) (2 ^ 64 - 1) → sum ≡ min (count + more) (2 ^ 64 - 1)
-    → IsCount (take i cs) count → IsCount (take (i + 1) cs) sum
-count-more cs i c count more sum lt is e s h =
-    let longer : length (rows_below (take (i + 1) cs)) ≡ length (rows_below (take i cs)) + length (rows c.1) =
-    ap (λ l. length (rows_below l)) (taken-at cs i c lt is) ∙ length-push (take i cs) c in
-    sum-capped count (length (rows_below (take i cs))) more (length (rows c.1)) sum h e s ∙ ap (λ n. min (suc n) (2 ^ 64 - 1)) (sym longer)
+  -- a leaf is counted already
+  pub count-leaf : length (rows c.1) ≡ 1 → IsCount cs (i + 1) count
+  count-leaf one = let long = longer in omega arith
+
+  -- of another child the places below it are counted too
+  pub count-more : (more sum : ℕ) → more ≡ min (length (rows_below (below c.1))) (2 ^ 64 - 1) → sum ≡ min (count + more) (2 ^ 64 - 1) → IsCount cs (i + 1) sum
+  count-more more sum e s =
+      let long = longer in
+      let level = length-level c.1 in
+      omega arith
+
+-- before the first child each child itself is counted
+pub count-none : (cs : List (Elem × Node)) → length cs ≤ 2 ^ 64 - 1 → IsCount cs 0 (length cs)
+count-none cs fits = omega arith
+
+-- behind the last one all their places are
+pub count-all : (cs : List (Elem × Node)) (i count : ℕ) → length cs ≤ i → IsCount cs i count → count ≡ min (length (rows_below cs)) (2 ^ 64 - 1)
+count-all cs i count done h =
+    let all : length (rows_below (take i cs)) ≡ length (rows_below cs) = ap (λ l. length (rows_below l)) (take_all i cs done) in
+    omega arith
 
 -- ---- each path once
 
-abbrev are_rows_apart : List Row → Bool
+-- no two rows have one path
+abbrev pub are_rows_apart : List Row → Bool
 are_rows_apart [] = true
 are_rows_apart (r ∷ rs) = not (is_some (content_at rs r.0)) && are_rows_apart rs
 
@@ -107,7 +122,8 @@ apart-below (suc k) (c ∷ cs) lt apart trees =
     apart-first s (rows c.1) (rows_below cs) first (λ p. content-below cs s p rest ∙ ap (λ x. content_in x p) (child_at-none s cs others))
     (apart-below k cs (omega arith) rest (both_second (is_tree c.1) _ trees))
 
-apart-tree : (n : Node) → is_tree n ≡ true → are_rows_apart (rows n) ≡ true
+-- the rows of a tree have each path once
+pub apart-tree : (n : Node) → is_tree n ≡ true → are_rows_apart (rows n) ≡ true
 apart-tree n tree =
     let level = level-below n in
     ap are_rows_apart level.rows_are

@@ -13,6 +13,7 @@ use Rattle.ssa_path.specs.declared.trie.Trie.{Trie}
 use Rattle.ssa_path.specs.Trie.{is_one_of}
 use Rattle.ssa_path.proofs.Orders.{none_first}
 use Rattle.ssa_typed.specs.Differences.{Difference, Added, Modified, Removed, differs, differs_at, differs_here, AreToldBoth, AreUnchanged, IsDiffering, IsUntold}
+use Rattle.ssa_typed.specs.NewPlaces.{new_places}
 use Rattle.ssa_typed.specs.Points.{content_in, point_in}
 use Rattle.ssa_typed.specs.Rows.{rows, below, content_at, is_tree}
 use Rattle.ssa_typed.specs.Same.{AreSame}
@@ -22,6 +23,7 @@ use Rattle.ssa_typed.specs.declared.compare.Scope.TheVariants.{Whole, Part}
 use Rattle.ssa_typed.specs.declared.node.Node.{Node}
 use Rattle.ssa_typed.proofs.Differing.{difference_of}
 use Rattle.ssa_typed.proofs.Lookups.{content-level, content-root}
+use Rattle.ssa_typed.proofs.NewPlaces.{count-same, unchanged-none}
 use Rattle.ssa_model.proofs.Basics.{and-false as and_false}
 
 -- ---- the same contents
@@ -96,6 +98,7 @@ module _ (n m : Node) (before : is_tree n ≡ true) (after : is_tree m ≡ true)
     added_told = inr (nothing-told Added, refl);
     modified_told = inr (nothing-told Modified, refl);
     removed_told = inr (nothing-told (Removed scope), refl);
+    new_counted = count-same told.new_places (new_places n m) (unchanged-none n m h);
   }
 
 -- ---- a body beside itself

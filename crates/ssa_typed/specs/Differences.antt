@@ -1,5 +1,5 @@
 -- What one body has otherwise than another that comes before it, told by their trees.
-use Rattle.std.specs.Prelude.{◌≡◌, ◌⊎◌, List, [], ◌∷◌, Bool, true, false, ◌&&◌, not, is_some, Option, Some, None}
+use Rattle.std.specs.Prelude.{◌≡◌, ◌-◌, ◌^◌, min, ◌⊎◌, List, [], ◌∷◌, Bool, true, false, ◌&&◌, not, is_some, Option, Some, None}
 use Rattle.ssa_model.specs.definitions.Path.{Element, Path}
 use Rattle.ssa_model.specs.definitions.Body.{Body, Content, is_other_leaf, added, modified, over, removed}
 use Rattle.ssa_path.specs.Children.{child_at, elements, rises}
@@ -9,6 +9,7 @@ use Rattle.ssa_path.specs.declared.element.Elem.{Elem}
 use Rattle.ssa_path.specs.declared.trie.Trie.{Trie}
 use Rattle.ssa_path.specs.View.{element_view}
 use Rattle.ssa_typed.specs.KeepsOrder.{KeepsItemOrder}
+use Rattle.ssa_typed.specs.NewPlaces.{Brings, IsCountOn, new_below, new_places}
 use Rattle.ssa_typed.specs.Points.{content_in, point_in, is_in_dict, IsChildTrie}
 use Rattle.ssa_typed.specs.Rows.{rows, own_content, below, content_at, is_tree}
 use Rattle.ssa_typed.specs.declared.compare.Comparison.{Comparison}
@@ -85,11 +86,13 @@ pub record AreDiffering (scope : Scope) (before after : Node) (v : PartsBelow) :
   pub added_below : IsDiffering Added before after v.added.items
   pub modified_below : IsDiffering Modified before after v.modified.items
   pub removed_below : IsDiffering (Removed scope) before after v.removed.items
+  pub new_are : v.new_places ≡ min (new_below (below before) (below after)) (2 ^ 64 - 1)
 
 pub record AreDifferences (scope : Scope) (before after : Node) (v : Parts) : Type 0 where
   pub added_trie : IsDifference Added before after v.added
   pub modified_trie : IsDifference Modified before after v.modified
   pub removed_trie : IsDifference (Removed scope) before after v.removed
+  pub new_are : v.new_places ≡ min (new_places before after) (2 ^ 64 - 1)
 
 -- one more child, with what is told of one that both trees have, where that is some path; or none, where nothing is told
 abbrev pub IsToldBoth : Difference → Elem × Node → Node → List (Elem × Trie) → List (Elem × Trie) → Type 0
@@ -100,6 +103,7 @@ pub record AreToldBoth (scope : Scope) (c : Elem × Node) (after : Node) (old ne
   pub added_told : IsToldBoth Added c after old.added.items new.added.items
   pub modified_told : IsToldBoth Modified c after old.modified.items new.modified.items
   pub removed_told : IsToldBoth (Removed scope) c after old.removed.items new.removed.items
+  pub new_counted : IsCountOn old.new_places new.new_places (new_places c.1 after)
 
 -- ---- trees of which nothing is told
 
@@ -125,4 +129,5 @@ pub record IsComparison (before after : Body) (c : Comparison) : Type 0 where
 pub record IsPartComparison (body part : Body) (c : PartComparison) : Type 0 where
   pub added_are : c.added ≡ added body part
   pub modified_are : c.modified ≡ modified body part
+  pub brings : Brings body part c.new_places
   pub repeats : c.repeats ≡ true → KeepsItemOrder body part → over body part ≡ body

@@ -27,3 +27,4 @@ pub mod Values
 pub mod Without
 pub mod Keyed
 pub mod InPart
+pub mod NewPlaces

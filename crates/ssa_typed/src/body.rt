@@ -275,8 +275,8 @@ impl Body {
         })
     }
 
-    /// How a part that is put over this body differs from it, and whether the body stays as it is but for the order of items.
-    /// No merged body is made for it.
+    /// How a part that is put over this body differs from it, how many places it brings, and whether the body stays as it is but
+    /// for the order of items. No merged body is made for it.
     pub fn compare_part(&self, alloc: Global, part: &Body) -> Result<PartComparison, AllocError>
         ensures { IfOk result (λ c. IsPartComparison self.now part.now c) }
     {
@@ -284,6 +284,7 @@ impl Body {
         Ok(PartComparison {
             added: FieldSet::from_root(told.added),
             modified: FieldSet::from_root(told.modified),
+            new_places: told.new_places,
             repeats: told.repeats,
         })
     }

@@ -1,5 +1,5 @@
 //! What one body has otherwise than another that comes before it.
-ghost use Rattle.std.specs.Prelude.{◌≡◌, ◌&&◌, true, drop, [], IfOk, OnOk};
+ghost use Rattle.std.specs.Prelude.{◌≡◌, ◌&&◌, ◌+◌, ◌-◌, ◌^◌, min, true, drop, [], IfOk, OnOk};
 ghost use Rattle.ssa_model.specs.definitions.Body.{Body};
 ghost use Rattle.ssa_model.specs.definitions.PathMap.{is_empty};
 ghost use Rattle.ssa_path.specs.Children.{elements, heads_order, rises};
@@ -67,13 +67,15 @@ pub(crate) enum Scope {
     Part,
 }
 
-// What differs at and below two places, by what the comparison tells of it. `repeats` is set only
-// where the tree after, put over the tree before, leaves it as it is.
+// What differs at and below two places, by what the comparison tells of it. `new_places` counts the places at which nothing stood
+// before, or is `usize::MAX` where there are more; `repeats` is set only where the tree after, put over the tree before, leaves it
+// as it is.
 #[derive(Drop)]
 pub(crate) struct Parts {
     pub(crate) added: Trie,
     pub(crate) modified: Trie,
     pub(crate) removed: Trie,
+    pub(crate) new_places: usize,
     pub(crate) repeats: bool,
 }
 
@@ -83,6 +85,7 @@ struct PartsBelow {
     added: Vec<(Elem, Trie)>,
     modified: Vec<(Elem, Trie)>,
     removed: Vec<(Elem, Trie)>,
+    new_places: usize,
     repeats: bool,
 }
 
@@ -93,12 +96,14 @@ impl PartsBelow {
         ensures added { result.added.items ≡ [] }
         ensures modified { result.modified.items ≡ [] }
         ensures removed { result.removed.items ≡ [] }
+        ensures places { result.new_places ≡ 0 }
         ensures repeats { result.repeats ≡ true }
     {
         PartsBelow {
             added: Vec::new(alloc),
             modified: Vec::new(alloc),
             removed: Vec::new(alloc),
+            new_places: 0,
             repeats: true,
         }
     }
@@ -287,11 +292,13 @@ fn push_parts(
     ensures added { OnOk result (IsGrown (element_view element.now) parts.added told.old.added.items told.new.added.items) }
     ensures modified { OnOk result (IsGrown (element_view element.now) parts.modified told.old.modified.items told.new.modified.items) }
     ensures removed { OnOk result (IsGrown (element_view element.now) parts.removed told.old.removed.items told.new.removed.items) }
+    ensures places { OnOk result (told.new.new_places ≡ min (told.old.new_places + parts.new_places) (2 ^ 64 - 1)) }
     ensures repeats { OnOk result (told.new.repeats ≡ (told.old.repeats && parts.repeats)) }
 {
     push_told(alloc, &mut told.added, element, parts.added)?;
     push_told(alloc, &mut told.modified, element, parts.modified)?;
     push_told(alloc, &mut told.removed, element, parts.removed)?;
+    told.new_places = told.new_places.saturating_add(parts.new_places);
     told.repeats = told.repeats && parts.repeats;
     Ok(())
 }
@@ -325,13 +332,9 @@ fn differing_beside(
                 i += 1;
             }
             Ordering::Greater => {
-                push_alone(
-                    alloc,
-                    &mut told.added,
-                    others.at(j),
-                    in_dict,
-                    Collected::Points,
-                )?;
+                let child = others.at(j);
+                push_alone(alloc, &mut told.added, child, in_dict, Collected::Points)?;
+                told.new_places = told.new_places.saturating_add(child.1.size());
                 told.repeats = false;
                 j += 1;
             }
@@ -449,6 +452,7 @@ fn parts_of(before: &Node, after: &Node, told: PartsBelow) -> Parts
             here: false,
             below: told.removed,
         },
+        new_places: told.new_places,
         repeats,
     }
 }

@@ -107,19 +107,27 @@ impl Node {
         }
     }
 
+    // How many places there are below this one, or `usize::MAX` where there are more: one for each child, and then those below
+    // the children that are no leaves, so that a leaf costs no more than a test.
+    fn places_below(&self) -> usize
+        ensures { result ≡ min (length (rows_below (below self.now))) (2 ^ 64 - 1) }
+    {
+        let children = self.children();
+        let mut count = children.len();
+        for child in children {
+            match &child.1 {
+                Node::Leaf(_) => {}
+                _ => count = count.saturating_add(child.1.places_below()),
+            }
+        }
+        count
+    }
+
     /// How many places there are, this one among them, or `usize::MAX` where there are more.
     pub fn size(&self) -> usize
         ensures { result ≡ min (length (rows self.now)) (2 ^ 64 - 1) }
     {
-        let mut size: usize = 1;
-        for child in self.children() {
-            let below = match &child.1 {
-                Node::Leaf(_) => 1,
-                _ => child.1.size(),
-            };
-            size = size.saturating_add(below);
-        }
-        size
+        self.places_below().saturating_add(1)
     }
 
     /// The place of a path below this node, if there is one.

@@ -12,6 +12,8 @@ pub struct PartComparison {
     pub added: FieldSet,
     /// The paths at which both have leaves of one sort with other contents.
     pub modified: FieldSet,
+    /// How many places the part has at which nothing stood, or `usize::MAX` where there are more.
+    pub new_places: usize,
     /// Whether the part, put over the body, leaves it as it is, where the items that both have stand in one order in each list
     /// ([`keeps_order`](crate::body::Body::keeps_order)). Of `false` nothing is promised.
     pub repeats: bool,

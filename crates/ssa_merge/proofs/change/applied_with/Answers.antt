@@ -1,6 +1,7 @@
 -- What an Apply without a conflict changes, where it has too many paths, is seated or is refused a seat.
-use Rattle.std.proofs.Common.{◌≡◌, ◌∙◌, sym, subst, refl}
+use Rattle.std.proofs.Common.{◌≡◌, ◌<◌, ◌≤◌, ◌-◌, ◌^◌, min, ◌∙◌, ap, sym, subst, refl}
 use Rattle.std.specs.Prelude.{Result, Ok, Err, if◌then◌else◌, unwrap_or}
+use Rattle.ssa_model.specs.definitions.Limits.{most_places}
 use Rattle.ssa_model.specs.definitions.PathMap.{size, union}
 use Rattle.ssa_model.specs.definitions.Body.{points, modified}
 use Rattle.ssa_model.specs.definitions.Table.{Table, owned_by, seat}
@@ -9,14 +10,14 @@ use Rattle.ssa_model.specs.definitions.Operations.{State, clashes, owned_outside
 use Rattle.ssa_merge.specs.Managers.{key_view}
 use Rattle.ssa_merge.specs.States.{state_view}
 use Rattle.ssa_merge.specs.TableChanges.{IsSeated}
-use Rattle.ssa_merge.specs.Plans.{IsChanged, body_after}
+use Rattle.ssa_merge.specs.Plans.{IsChanged}
 use Rattle.ssa_merge.specs.declared.change.Change.{Change}
-use Rattle.ssa_merge.proofs.Applied.{apply-decided, decided-paths, no-conflict, seated, unseated, few-enough, too-many}
+use Rattle.ssa_merge.proofs.Applied.{apply-decided, decided-paths, no-conflict, few-places, many-places, seated, unseated}
 use Rattle.ssa_merge.proofs.Untaken.{seat-unforced}
 use Rattle.ssa_merge.proofs.change.applied_with.Goals as goal
 
-pub returns-then-has_too_many_places-clause-change : goal.returns-then-has_too_many_places-clause-change
-returns-then-has_too_many_places-clause-change c = λ config merging compared free own.
+pub returns-then-places-gt-MOST_PLACES-clause-change : goal.returns-then-places-gt-MOST_PLACES-clause-change
+returns-then-places-gt-MOST_PLACES-clause-change c = λ config merging compared free own.
     let state = state_view c.args.state.now in
     let a = key_view c.args.key.now in
     let body = pruned state a config in
@@ -24,8 +25,8 @@ returns-then-has_too_many_places-clause-change c = λ config merging compared fr
     let clash = clashes a changed state.table in
     let table = seat state.table a (union (points config) (owned_outside state.table a)) changed changed c.args.at in
     let quiet = no-conflict c.args.force clash free in
-    let over = too-many c.has_too_many_places.result (body_after c.args.made.body c.args.made.comparison.removed state.body) body merging
-    (c.has_too_many_places.ensures c.args.made.comparison.removed).0 c.if-has_too_many_places.true in (
+    let over : most_places < size body =
+    many-places c.args.made.places (size body) (c.requires.places ∙ ap (λ b. min (size b) (2 ^ 64 - 1)) merging) c.if-places-gt-MOST_PLACES.true in (
       too_many_paths,
       apply-decided state a config c.args.force c.args.at body clash (size body) table refl refl refl refl
           ∙ decided-paths c.args.force clash (size body) body table quiet over,
@@ -41,8 +42,8 @@ returns-in-Ok-clause-change c = λ config merging compared free own.
     let clash = clashes a changed state.table in
     let table = seat state.table a (union (points config) (owned_outside state.table a)) changed changed c.args.at in
     let quiet = no-conflict c.args.force clash free in
-    let few = few-enough c.has_too_many_places.result (body_after c.args.made.body c.args.made.comparison.removed state.body) body merging
-    (c.has_too_many_places.ensures c.args.made.comparison.removed).1 c.if-has_too_many_places.false in
+    let few : size body ≤ most_places =
+    few-places c.args.made.places (size body) (c.requires.places ∙ ap (λ b. min (size b) (2 ^ 64 - 1)) merging) c.if-places-gt-MOST_PLACES.false in
     let lost = c.taken-lost.ensures ∙ (λ i. if c.args.force then compared.modified_are i else c.new-nothing.ensures i) in
     let seats : ◌≡◌ {A = Table} (seat state.table a (unwrap_or c.args.owned (owned_by state.table a)) c.taken-lost.result.now c.args.made.comparison.modified c.args.at)
     table
@@ -64,8 +65,8 @@ returns-in-Err-clause-change c = λ config merging compared free own.
     let clash = clashes a changed state.table in
     let table = seat state.table a (union (points config) (owned_outside state.table a)) changed changed c.args.at in
     let quiet = no-conflict c.args.force clash free in
-    let few = few-enough c.has_too_many_places.result (body_after c.args.made.body c.args.made.comparison.removed state.body) body merging
-    (c.has_too_many_places.ensures c.args.made.comparison.removed).1 c.if-has_too_many_places.false in
+    let few : size body ≤ most_places =
+    few-places c.args.made.places (size body) (c.requires.places ∙ ap (λ b. min (size b) (2 ^ 64 - 1)) merging) c.if-places-gt-MOST_PLACES.false in
     let lost = c.taken-lost.ensures ∙ (λ i. if c.args.force then compared.modified_are i else c.new-nothing.ensures i) in
     let seats : ◌≡◌ {A = Table} (seat state.table a (unwrap_or c.args.owned (owned_by state.table a)) c.taken-lost.result.now c.args.made.comparison.modified c.args.at)
     table

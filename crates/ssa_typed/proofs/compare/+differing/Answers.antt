@@ -28,7 +28,7 @@ pub differing_alike-loop-i-init : goal.differing_alike-loop-i-init
 differing_alike-loop-i-init t c =
     let none = c.of_none-told.ensures in
     alike-none c.args.scope c.args.before.now c.args.after.now c.children-own.result.now c.children-others.result.now c.children-own.ensures.own
-    c.children-others.ensures.own c.requires.same c.requires.rise c.of_none-told.result none.added none.modified none.removed
+    c.children-others.ensures.own c.requires.same c.requires.rise c.of_none-told.result none.added none.modified none.removed none.places
 
 pub differing_alike-push_differing-requires : goal.differing_alike-push_differing-requires
 differing_alike-push_differing-requires t c =
@@ -60,7 +60,7 @@ pub differing_alike-returns-clause-told : goal.differing_alike-returns-clause-to
 differing_alike-returns-clause-told t c =
     let l = c.loop-i in
     alike-all c.args.scope c.args.before.now c.args.after.now c.children-own.result.now c.children-others.result.now c.children-own.ensures.own
-    c.children-others.ensures.own c.requires.same c.requires.rise l.i c.loop-i-test.false l.told l.invariant
+    c.children-others.ensures.own c.requires.same c.requires.rise l.i c.loop-i-test.false l.told l.invariant c.requires.after
 
 pub differing_alike-returns-clause-repeats : goal.differing_alike-returns-clause-repeats
 differing_alike-returns-clause-repeats t c =
@@ -72,7 +72,7 @@ pub differing_beside-loop-order-init : goal.differing_beside-loop-order-init
 differing_beside-loop-order-init t c =
     let none = c.of_none-told.ensures in
     past-none c.args.scope c.is_dict-in_dict.result (lent_children c.args.own.now) (lent_children c.args.others.now) c.of_none-told.result none.added
-    none.modified none.removed c.requires.own c.requires.others
+    none.modified none.removed none.places c.requires.own c.requires.others
 
 pub differing_beside-push_lost-requires : goal.differing_beside-push_lost-requires
 differing_beside-push_lost-requires t c =
@@ -87,9 +87,9 @@ pub differing_beside-push_alone-requires : goal.differing_beside-push_alone-requ
 differing_beside-push_alone-requires t c =
     let n = c.args.before.now in
     let m = c.args.after.now in
-    let s = c.at-in-Greater.result.now in
+    let s = c.at-child.result.now in
     let child = left-other (below n) (below m) (lent_children c.args.own.now) (lent_children c.args.others.now) c.requires.left c.loop-order.j s
-    c.requires.others c.at-in-Greater.ensures.read in
+    c.requires.others c.at-child.ensures.read in
     tree-child m (element_view s.0) s.1 c.requires.after child
 
 pub differing_beside-push_differing-requires : goal.differing_beside-push_differing-requires
@@ -118,7 +118,8 @@ differing_beside-loop-order-preserved-in-Greater t c =
     let l = c.loop-order in
     let heads = sym c.order_at.ensures ∙ c.in-Some.is ∙ ap Some c.in-Greater.is in
     past-new c.args.scope c.is_dict-in_dict.result (lent_children c.args.own.now) (lent_children c.args.others.now) l.i l.j l.told l.invariant
-    c.at-in-Greater.result.now c.push_alone.new.told heads c.at-in-Greater.ensures.read c.in_ok-push_alone-in-Greater.ensures
+    c.at-child.result.now c.push_alone.new.told c.size.result c.saturating_add.result heads c.at-child.ensures.read
+    c.in_ok-push_alone-in-Greater.ensures c.size.ensures c.saturating_add.ensures
 
 pub differing_beside-loop-order-preserved : goal.differing_beside-loop-order-preserved
 differing_beside-loop-order-preserved t c =
@@ -142,7 +143,7 @@ differing_beside-returns-clause-told t c =
     let l = c.loop-order in
     let none = heads-none _ _ (sym c.order_at.ensures ∙ c.in_default.is) in
     past-all c.args.scope c.is_dict-in_dict.result (lent_children c.args.own.now) (lent_children c.args.others.now) c.args.before.now c.args.after.now _ _ l.told
-    c.is_dict-in_dict.ensures c.requires.left none.0 none.1 l.invariant
+    c.is_dict-in_dict.ensures c.requires.after c.requires.left none.0 none.1 l.invariant
 
 pub differing_beside-returns-clause-repeats : goal.differing_beside-returns-clause-repeats
 differing_beside-returns-clause-repeats t c repeats =

@@ -1,6 +1,7 @@
-use Rattle.std.proofs.Common.{refl, sym, true≢false, ◌∙◌}
+use Rattle.std.proofs.Common.{◌-◌, ◌^◌, min, refl, sym, ap, true≢false, ◌∙◌}
 use Rattle.ssa_typed.specs.Differences.{Added, Modified, Removed}
 use Rattle.ssa_typed.proofs.Differing.{difference-made}
+use Rattle.ssa_typed.proofs.NewPlaces.{new-level}
 use Rattle.ssa_typed.proofs.Repeating.{repeat-level}
 use Rattle.ssa_typed.proofs.compare.parts_of.Goals as goal
 use Rattle.ssa_typed.proofs.compare.parts_of.Goals.{then-told, else-told}
@@ -13,6 +14,7 @@ returns-clause-told c scope told =
       added_trie = difference-made Added n m _ refl told.added_below;
       modified_trie = difference-made Modified n m _ c.is_other_leaf-here.ensures told.modified_below;
       removed_trie = difference-made (Removed scope) n m _ refl told.removed_below;
+      new_are = told.new_are ∙ ap (λ k. min k (2 ^ 64 - 1)) (sym (new-level n c.requires.before m));
     }
 
 pub returns-clause-repeats : goal.returns-clause-repeats
