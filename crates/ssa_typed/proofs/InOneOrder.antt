@@ -1,5 +1,5 @@
 -- Whether the items of two lists stand in one order, item by item of the second: the places of its items in the first rise.
-use Rattle.std.proofs.Common.{◌≡◌, ℕ, suc, ◌+◌, ◌-◌, ◌<◌, ◌≤◌, length, map, List, [], ◌∷◌, ◌++◌, take, drop, get_or, Bool, true, false, not, ◌||◌, ◌&&◌, cond, Option, Some, None, refl, sym, ap, subst, ◌∙◌, arith, true≢false}
+use Rattle.std.proofs.Common.{◌≡◌, ℕ, suc, ◌+◌, ◌-◌, ◌<◌, ◌≤◌, length, map, List, [], ◌∷◌, ◌++◌, take, drop, get_or, true, false, not, ◌||◌, ◌&&◌, cond, Some, None, refl, sym, ap, subst, ◌∙◌, arith, true≢false}
 use Rattle.std.proofs.lemmas.List.{drop_all, drop_more, drop-drop, take-append-drop}
 use Rattle.std.proofs.lemmas.List.Elements.{filter-append}
 use Rattle.std.proofs.lemmas.List.Folds.{list_any-append}
@@ -8,19 +8,17 @@ use Rattle.std.specs.Prelude.{filter}
 use Rattle.ssa_model.specs.definitions.Kind.{is_among}
 use Rattle.ssa_model.specs.definitions.Path.{Element, same_element}
 use Rattle.ssa_model.specs.definitions.Record.{are_in_one_order, common}
-use Rattle.ssa_model.proofs.Basics.{not_true, or_true, some-same, yes_no}
+use Rattle.ssa_model.proofs.Basics.{not_true, or_true, yes_no}
 use Rattle.ssa_model.proofs.Fitting.{among-filter, same_element-true}
 use Rattle.ssa_model.proofs.PutItems.{filter-members}
 use Rattle.ssa_model.proofs.Tables.{apart_by, either, element-itself, true_or}
-use Rattle.ssa_model.proofs.Tests.{by_test, filter-dropped, filter-kept, pointwise-itself, pointwise-true}
+use Rattle.ssa_model.proofs.Tests.{filter-dropped, filter-kept, pointwise-itself, pointwise-true}
 use Rattle.ssa_path.specs.Children.{child_at, elements}
-use Rattle.ssa_path.specs.declared.element.Elem.{Elem}
 use Rattle.ssa_path.specs.View.{element_view}
 use Rattle.ssa_path.proofs.Lists.{elements-append, left-at}
 use Rattle.ssa_path.proofs.Orders.{both_first, both_second}
 use Rattle.ssa_typed.specs.MergedOrder.{next_place, places}
 use Rattle.ssa_typed.specs.Rows.{are_apart}
-use Rattle.ssa_typed.specs.declared.node.Node.{Node}
 use Rattle.ssa_typed.proofs.Building.{Child}
 use Rattle.ssa_typed.proofs.Pairs.{none-pass}
 use Rattle.ssa_typed.proofs.SortedOut.{before-apart, child-next, is_absent, new-place, next-of, none-among, place-within}

@@ -27,7 +27,7 @@ use Rattle.ssa_typed.specs.Copies.{kept_below}
 use Rattle.ssa_typed.specs.InPart.{AreSpliced, IsInPart, IsNew, IsPut, IsRecord, IsSpliced}
 use Rattle.ssa_typed.specs.Points.{content_in}
 use Rattle.ssa_typed.specs.Restricted.{part_at}
-use Rattle.ssa_typed.specs.Rows.{are_fields, are_trees, below, body_of, content_at, is_tree, own_content, rows}
+use Rattle.ssa_typed.specs.Rows.{are_fields, are_trees, body_of, content_at, is_tree, own_content, rows}
 use Rattle.ssa_typed.specs.declared.node.Node.{Node, Branch}
 use Rattle.ssa_typed.proofs.Building.{Child}
 use Rattle.ssa_typed.proofs.Copying.{kept-same}

@@ -1,5 +1,5 @@
 -- Trees whose common items stand in one order, list by list: child by child of the second.
-use Rattle.std.proofs.Common.{◌≡◌, ℕ, ◌+◌, ◌<◌, ◌≤◌, ◌⊎◌, inl, inr, List, [], ◌∷◌, ◌++◌, length, get_or, take, Bool, true, false, not, cond, Option, Some, None, refl, sym, ap, subst, subst₂, ◌∙◌, true≢false}
+use Rattle.std.proofs.Common.{◌≡◌, ℕ, ◌+◌, ◌<◌, ◌≤◌, ◌⊎◌, inl, inr, List, [], ◌∷◌, ◌++◌, length, get_or, take, true, false, cond, Option, Some, None, refl, sym, ap, subst, ◌∙◌}
 use Rattle.std.proofs.lemmas.List.{take_all}
 use Rattle.ssa_model.specs.definitions.Body.{Content, leaf, atom, record_branch, dict_branch, list_branch, over, over_content}
 use Rattle.ssa_model.specs.definitions.Path.{Element, Path, same_element}
@@ -7,19 +7,18 @@ use Rattle.ssa_model.specs.definitions.Record.{is_reordered}
 use Rattle.ssa_model.proofs.Basics.{some-same, some≢none as some-none}
 use Rattle.ssa_model.proofs.Fitting.{same_element-true}
 use Rattle.ssa_model.proofs.PathMaps.{get-over, same_map}
-use Rattle.ssa_path.specs.Children.{child_at, elements}
+use Rattle.ssa_path.specs.Children.{child_at}
 use Rattle.ssa_path.specs.View.{element_view}
 use Rattle.ssa_path.proofs.Lists.{taken-at}
 use Rattle.ssa_typed.specs.KeepsOrder.{ChildrenKeepOrder, KeepsItemOrder, TreeKeepsOrder}
 use Rattle.ssa_typed.specs.MergedOrder.{places}
 use Rattle.ssa_typed.specs.Points.{content_in}
 use Rattle.ssa_typed.specs.Repeating.{TreeRepeats}
-use Rattle.ssa_typed.specs.Rows.{are_apart, below, body_of, content_at, is_tree, own_content, rows}
+use Rattle.ssa_typed.specs.Rows.{below, body_of, content_at, is_tree, own_content, rows}
 use Rattle.ssa_typed.specs.declared.node.Node.{Node}
 use Rattle.ssa_typed.proofs.Building.{Child}
 use Rattle.ssa_typed.proofs.Looks.{get-body}
 use Rattle.ssa_typed.proofs.Lookups.{content-level, content-root}
-use Rattle.ssa_typed.proofs.Overlaying.{child-at-index}
 use Rattle.ssa_typed.proofs.SortedOut.{absent-none, is_absent, new-place}
 
 -- ---- one level

@@ -1,5 +1,5 @@
 -- The places of a live list that hold items of the configuration too, refilled with these in the configuration's order.
-use Rattle.std.proofs.Common.{◌≡◌, ℕ, zero, suc, ◌+◌, ◌-◌, ◌<◌, ◌≤◌, List, [], ◌∷◌, ◌++◌, length, get_or, drop, Bool, true, false, not, ◌&&◌, ◌||◌, cond, nat_eq, Option, Some, None, refl, sym, ap, subst, subst₂, ◌∙◌, append_assoc, append-nil, arith, true≢false}
+use Rattle.std.proofs.Common.{◌≡◌, ℕ, zero, suc, ◌+◌, ◌<◌, ◌≤◌, List, [], ◌∷◌, ◌++◌, length, get_or, drop, Bool, true, false, not, ◌&&◌, ◌||◌, cond, nat_eq, Option, Some, None, refl, sym, ap, subst, subst₂, ◌∙◌, append_assoc, append-nil, arith, true≢false}
 use Rattle.std.proofs.lemmas.List.{drop_all, drop_more}
 use Rattle.std.proofs.lemmas.List.Elements.{filter-append}
 use Rattle.std.proofs.lemmas.Bool.Decides.{nat_tests}
@@ -8,13 +8,12 @@ use Rattle.std.specs.List.{list_any}
 use Rattle.ssa_model.specs.definitions.Body.{Content, joined, laid, over_content}
 use Rattle.ssa_model.specs.definitions.Kind.{is_among}
 use Rattle.ssa_model.specs.definitions.Path.{Element, Path, same_element}
-use Rattle.ssa_model.proofs.Basics.{and-true, first_false, not_true, or_true, second_false, some-same, some≢none as some-none}
+use Rattle.ssa_model.proofs.Basics.{and-true, first_false, second_false, some-same, some≢none as some-none}
 use Rattle.ssa_model.proofs.Fitting.{among-filter, among-joined, same_element-true}
 use Rattle.ssa_model.proofs.Joining.{as-many, laid-moves, laid-stays}
-use Rattle.ssa_model.proofs.Tables.{apart_by, element-itself, true_or}
+use Rattle.ssa_model.proofs.Tables.{element-itself}
 use Rattle.ssa_model.proofs.Tests.{by_test, same_tests}
 use Rattle.ssa_path.specs.Children.{child_at, elements}
-use Rattle.ssa_path.specs.declared.element.Elem.{Elem}
 use Rattle.ssa_path.specs.View.{element_view}
 use Rattle.ssa_path.proofs.Lists.{elements-append, left-at}
 use Rattle.ssa_path.proofs.Orders.{both_first, both_second}
@@ -27,10 +26,10 @@ use Rattle.ssa_typed.specs.declared.node.Node.{Node}
 use Rattle.ssa_typed.proofs.Building.{Child}
 use Rattle.ssa_typed.proofs.Copying.{kept-rows, kept-tree}
 use Rattle.ssa_typed.proofs.Fitting.{apart-distinct}
-use Rattle.ssa_typed.proofs.InOneOrder.{StandsAt, stands-at}
-use Rattle.ssa_typed.proofs.Lookups.{child-tree, child_at-none}
+use Rattle.ssa_typed.proofs.InOneOrder.{stands-at}
+use Rattle.ssa_typed.proofs.Lookups.{child_at-none}
 use Rattle.ssa_typed.proofs.Overlaying.{child-at-index, new-elements, over-none}
-use Rattle.ssa_typed.proofs.SortedOut.{before-apart, is_absent, new-place, none-among, place-at}
+use Rattle.ssa_typed.proofs.SortedOut.{before-apart, is_absent, new-place, place-at}
 
 -- ---- each child over what both have of its element
 

@@ -1,20 +1,19 @@
 -- The configuration's children, sorted out by the live children.
-use Rattle.std.proofs.Common.{◌≡◌, ℕ, suc, ◌+◌, ◌-◌, ◌<◌, ◌≤◌, List, [], ◌∷◌, ◌++◌, map, length, get_or, set, take, drop, Bool, true, false, not, ◌||◌, cond, Option, Some, None, option_map, refl, sym, ap, subst, ◌∙◌, append_assoc, append-nil, arith, true≢false, slice_index_or, zero, Bor}
+use Rattle.std.proofs.Common.{◌≡◌, ℕ, suc, ◌+◌, ◌<◌, List, [], ◌∷◌, ◌++◌, map, length, get_or, set, take, Bool, true, false, not, ◌||◌, cond, Option, Some, None, option_map, refl, sym, ap, subst, ◌∙◌, append_assoc, append-nil, arith, true≢false, slice_index_or, zero, Bor}
 use Rattle.std.specs.Prelude.{filter, IfNone, IfSome}
 use Rattle.std.specs.List.{list_any}
-use Rattle.std.proofs.lemmas.List.{drop-set-lt, drop_more, length-drop, length-map, length-take-le, map-append, take_all}
+use Rattle.std.proofs.lemmas.List.{length-map, length-take-le, map-append}
 use Rattle.std.proofs.lemmas.List.Elements.{filter-append}
 use Rattle.std.proofs.lemmas.List.Folds.{list_any-append}
 use Rattle.ssa_model.specs.definitions.Path.{Element, same_element}
 use Rattle.ssa_path.specs.Children.{child_at, elements, IsChildAt}
 use Rattle.ssa_path.specs.declared.element.Elem.{Elem}
 use Rattle.ssa_path.specs.View.{element_view}
-use Rattle.ssa_path.proofs.Lists.{elements-append, left-at, taken-at}
+use Rattle.ssa_path.proofs.Lists.{elements-append, taken-at}
 use Rattle.ssa_path.proofs.Orders.{both_first, both_second}
 use Rattle.ssa_typed.specs.InOrder.{IsInOrder}
-use Rattle.ssa_typed.specs.MergedOrder.{beside, is_new, lent_place, live_child, next_place, places, whole_child}
-use Rattle.ssa_typed.specs.Rows.{are_apart, are_trees, is_tree}
-use Rattle.ssa_typed.specs.declared.node.Node.{Node}
+use Rattle.ssa_typed.specs.MergedOrder.{beside, is_new, lent_place, next_place, places, whole_child}
+use Rattle.ssa_typed.specs.Rows.{are_apart}
 use Rattle.ssa_typed.proofs.Building.{Child}
 use Rattle.ssa_model.proofs.Fitting.{same_element-true}
 use Rattle.ssa_model.proofs.ShownNames.{turned as same_either_way}

@@ -247,9 +247,6 @@ fn push_branches(
     if child.1.are_lists(after) {
         return push_items(alloc, scope, told, child, after);
     }
-    if child.1.has_same_few_leaves(after) {
-        return Ok(());
-    }
     let parts = differing_parts(alloc, scope, &child.1, after)?;
     push_parts(alloc, told, &child.0, parts)
 }

@@ -6,15 +6,6 @@ ghost use Rattle.ssa_typed.specs.Same.{AreSame};
 
 use crate::in_order::stand_alike;
 use crate::node::{Leaf, Node};
-use ssa_path::element::Elem;
-
-// The most entries of a Dict of which it is asked whether they are the same leaves before they are compared.
-const FEW_ENTRIES: usize = 4;
-
-// Whether a Dict has few entries, with nothing below them: to ask whether they are the same costs little.
-fn are_few_leaves(entries: &[(Elem, Node)]) -> bool {
-    entries.len() <= FEW_ENTRIES && entries.iter().all(|entry| matches!(entry.1, Node::Leaf(_)))
-}
 
 impl Leaf {
     // Whether both leaves have the same contents.
@@ -77,20 +68,5 @@ impl Node {
             }
         }
         true
-    }
-
-    // Whether both are one Dict of few entries, with nothing below them. Of other trees it is not asked
-    // before they are compared: a walk of what stands below them would be made again at each level.
-    pub(crate) fn has_same_few_leaves(&self, after: &Node) -> bool
-        requires before { is_tree self.now ≡ true }
-        requires after { is_tree after.now ≡ true }
-        ensures { result ≡ true → AreSame self.now after.now }
-    {
-        match after {
-            Node::Dict(entries) => are_few_leaves(entries) && self.is_same(after),
-            Node::Leaf(_) => false,
-            Node::Branch(_) => false,
-            Node::List(_) => false,
-        }
     }
 }

@@ -13,9 +13,9 @@ use Rattle.ssa_typed.proofs.DifferingLeft.{none-left-repeats, none-left-unchange
 use Rattle.ssa_typed.proofs.Left.{left-more, left-nothing, left-ordered, left-other, left-own}
 use Rattle.ssa_typed.proofs.Lookups.{tree-child}
 use Rattle.ssa_typed.proofs.OverNodes.{ok-gives}
-use Rattle.ssa_typed.proofs.Repeating.{repeat-all, repeat-same}
+use Rattle.ssa_typed.proofs.Repeating.{repeat-all}
 use Rattle.ssa_typed.proofs.Sizes.{smaller}
-use Rattle.ssa_typed.proofs.Unchanged.{nothing-grown, same-unchanged}
+use Rattle.ssa_typed.proofs.Unchanged.{nothing-grown}
 use Rattle.ssa_typed.proofs.compare.+differing.Goals as goal
 
 pub differing_alike-bounds-others-i : goal.differing_alike-bounds-others-i
@@ -211,17 +211,6 @@ differing_items-returns-clause-told t c = c.parts_of.ensures.told c.args.scope c
 
 pub differing_parts-returns-clause-told : goal.differing_parts-returns-clause-told
 differing_parts-returns-clause-told t c = c.parts_of.ensures.told c.args.scope c.in_ok-told.ensures.told
-
-pub push_branches-returns-then-has_same_few_leaves-clause-told : goal.push_branches-returns-then-has_same_few_leaves-clause-told
-push_branches-returns-then-has_same_few_leaves-clause-told t c =
-    let child = c.args.child.now in
-    let m = c.args.after.now in
-    nothing-grown child.1 m c.requires.before c.requires.after (same-unchanged child.1 m (c.has_same_few_leaves.ensures c.if-has_same_few_leaves.true))
-    c.args.scope child.0 c.args.told.now
-
-pub push_branches-returns-then-has_same_few_leaves-clause-repeats : goal.push_branches-returns-then-has_same_few_leaves-clause-repeats
-push_branches-returns-then-has_same_few_leaves-clause-repeats t c repeats =
-    (repeats, repeat-same c.args.child.now.1 c.args.after.now c.requires.before (c.has_same_few_leaves.ensures c.if-has_same_few_leaves.true))
 
 -- none of both lists' items is left
 no-items-left : (t : ℕ) (c : goal.push_items-Then-is_empty-2 t) → AreLeft (below c.args.child.now.1) (below c.args.after.now) [] []

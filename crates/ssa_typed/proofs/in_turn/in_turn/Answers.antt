@@ -1,5 +1,5 @@
 use Rattle.std.specs.Vec.Iter.{into_iter_items}
-use Rattle.ssa_typed.proofs.Refilling.{turning-end, turning-new, turning-own, turning-start}
+use Rattle.ssa_typed.proofs.Refilling.{turning-new, turning-own}
 use Rattle.ssa_typed.proofs.in_turn.in_turn.Goals as goal
 
 pub find-requires : goal.find-requires

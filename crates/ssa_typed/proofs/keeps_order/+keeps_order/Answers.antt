@@ -1,4 +1,4 @@
-use Rattle.std.proofs.Common.{◌≡◌, ◌<◌, ◌+◌, ap, arith, get_or, length, not, refl, rules, subst₂, sym, Some, true≢false, ◌∙◌}
+use Rattle.std.proofs.Common.{◌≡◌, ◌<◌, ap, arith, get_or, length, not, refl, rules, subst₂, sym, Some, true≢false, ◌∙◌}
 use Rattle.ssa_model.proofs.Basics.{not_true}
 use Rattle.ssa_path.specs.Children.{child_at}
 use Rattle.ssa_path.specs.View.{element_view}

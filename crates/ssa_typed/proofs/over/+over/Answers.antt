@@ -1,7 +1,7 @@
 use Rattle.std.specs.Option.{option_to_list}
 use Rattle.std.specs.List.{list_any}
 use Rattle.std.specs.Prelude.{filter}
-use Rattle.std.proofs.Common.{◌≡◌, ◌<◌, ◌+◌, ◌*◌, ◌++◌, ◌∷◌, List, length, drop, get_or, nat_eq, true, false, Some, Less, Equal, Greater, refl, set, sym, ap, subst, subst₂, ◌∙◌, arith, rules}
+use Rattle.std.proofs.Common.{◌≡◌, ◌<◌, ◌+◌, ◌*◌, ◌++◌, ◌∷◌, List, length, drop, get_or, nat_eq, true, false, Some, Less, Equal, Greater, refl, sym, ap, subst, subst₂, ◌∙◌, arith, rules}
 use Rattle.ssa_model.specs.definitions.Kind.{is_among}
 use Rattle.ssa_path.specs.Children.{child_at, elements, heads_order}
 use Rattle.ssa_path.specs.View.{element_view}
