@@ -20,6 +20,7 @@ pub mod InOneOrder
 pub mod KeepingOrder
 pub mod KindRows
 pub mod KnownPoints
+pub mod LivePlaces
 pub mod LackingPaths
 pub mod Laws
 pub mod Leaving

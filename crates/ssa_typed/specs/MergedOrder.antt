@@ -1,8 +1,10 @@
 -- The merged order of the children of a live place and of the configuration's place.
 use Rattle.std.specs.Prelude.{◌≡◌, List, [], ◌∷◌, ◌++◌, map, filter, Bool, true, false, not, Option, None, Some, ℕ, suc, if◌then◌else◌}
 use Rattle.std.specs.Borrow.{Bor}
+use Rattle.std.specs.List.Sorted.{IsNonDecreasingBy, IsPermutation}
 use Rattle.ssa_model.specs.definitions.Path.{Element, same_element}
 use Rattle.ssa_path.specs.Children.{child_at, elements, rises}
+use Rattle.ssa_path.specs.SortKeys.{element_key}
 use Rattle.ssa_path.specs.View.{element_view}
 use Rattle.ssa_path.specs.declared.element.Elem.{Elem}
 use Rattle.ssa_typed.specs.InOrder.{IsInOrder}
@@ -56,6 +58,19 @@ places (c ∷ cs) = (c.0, 0) ∷ map next_place (places cs)
 -- an element that is lent, with its place
 abbrev pub lent_place : Bor Elem × ℕ → Elem × ℕ
 lent_place p = (p.0.now, p.1)
+
+-- of each child of the configuration the live place of its element, if it has one
+abbrev pub live_places : List (Elem × Node) → List (Elem × Node) → List (Option ℕ)
+live_places live config = map (λ d. child_at (element_view d.0) (places live)) config
+
+-- the numbers of the children's elements, behind what all of them begin with
+abbrev pub numbers : Element → ℕ → List (Elem × Node) → List ℕ
+numbers first skip cs = map (λ c. element_key first skip (element_view c.0)) cs
+
+-- these numbers, each with a place, none below one before it
+pub record IsNumbered (all : List ℕ) (numbered : List (ℕ × ℕ)) : Type 0 where
+  pub moved : IsPermutation all (map (λ p. p.0) numbered)
+  pub rise : IsNonDecreasingBy (λ p. p.0) numbered
 
 -- of each of these children of the configuration, in turn, the live place of its element
 abbrev pub AreTurns : List (Elem × Node) → List (Elem × Node) → List ℕ → List (Elem × Node) → Type 0

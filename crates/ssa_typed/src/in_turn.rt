@@ -4,7 +4,7 @@ ghost use Rattle.ssa_path.specs.Children.{elements};
 ghost use Rattle.ssa_typed.specs.MergedOrder.{is_new, is_old, AreTurns};
 ghost use Rattle.ssa_typed.specs.Rows.{are_apart};
 
-use crate::merged_order::Places;
+use crate::live_places::live_places;
 use crate::node::Node;
 use indexmap::IndexSet;
 use ssa_path::element::Elem;
@@ -23,8 +23,7 @@ pub(crate) struct InTurn {
 
 /// The configuration's children, sorted out by the live ones.
 ///
-/// The set holds numbers of places, so that no text is hashed, however the elements are chosen. Takes about n log n comparisons
-/// of elements.
+/// The set holds numbers of places, so that no text is hashed, however the elements are chosen. Takes about n log n comparisons.
 pub(crate) fn in_turn(
     alloc: Global,
     live: &[(Elem, Node)],
@@ -36,12 +35,16 @@ pub(crate) fn in_turn(
     ensures new { IfOk result (λ s. s.new.items ≡ filter (is_new live.now) config.items) }
     ensures turns { IfOk result (λ s. AreTurns live.now config.items s.places.keys s.own.items) }
 {
-    let found = &Places::of(alloc, live)?;
-    let mut places = IndexSet::new(alloc);
-    let mut own = Vec::new(alloc);
+    let found = live_places(alloc, live, &config)?;
+    let most = live.len().min(config.len());
+    let mut places = IndexSet::with_capacity(alloc, most)?;
+    let mut own = Vec::with_capacity(alloc, most)?;
     let mut new = Vec::new(alloc);
+    let mut i = 0;
     for child in config {
-        match found.find(&child.0) {
+        let place = found[i];
+        i += 1;
+        match place {
             Some(place) => {
                 places.insert(place)?;
                 own.push(child)?;

@@ -1,5 +1,5 @@
 //! Whether the items that a live tree and a configuration both have stand in one order, list by list.
-ghost use Rattle.std.specs.Prelude.{◌≡◌, ◌↔◌, not, true, IfOk, IsTrue, Some};
+ghost use Rattle.std.specs.Prelude.{◌≡◌, ◌↔◌, is_some, not, true, IfOk, IfSome, IsTrue, Some};
 ghost use Rattle.ssa_model.specs.definitions.Record.{are_in_one_order, is_reordered};
 ghost use Rattle.ssa_path.specs.Children.{elements};
 ghost use Rattle.ssa_typed.specs.KeepsOrder.{TreeKeepsOrder};
@@ -11,55 +11,77 @@ use crate::node::Node;
 use ssa_path::element::Elem;
 use std::alloc::{AllocError, Global};
 
-// Whether the items that both have stand in one order: whether their live places rise in the configuration's order.
-fn places_rise(live: &[(Elem, Node)], places: &Places, config: &[(Elem, Node)]) -> bool
-    requires places { ArePlacesOf live.now places.now }
+// How often a child was not found at the place looked at first.
+fn count_misses(misses: usize, near: usize, place: Option<usize>) -> usize {
+    if place == Some(near) {
+        misses
+    } else {
+        misses.saturating_add(1)
+    }
+}
+
+// The live places, where those of the items that both have rise in the configuration's order: where these stand in one order.
+// Another order is mostly told by one of the first items, so that the live ones are only put in order once some were looked for.
+fn rising_places<'a>(
+    alloc: Global,
+    live: &'a [(Elem, Node)],
+    config: &[(Elem, Node)],
+) -> Result<Option<Places<'a>>, AllocError>
     requires apart { are_apart (elements live.now) ≡ true }
     requires config_apart { are_apart (elements config.now) ≡ true }
-    ensures { result ≡ are_in_one_order (elements live.now) (elements config.now) }
+    ensures order { IfOk result (λ found. is_some found ≡ are_in_one_order (elements live.now) (elements config.now)) }
+    ensures places { IfOk result (λ found. IfSome found (ArePlacesOf live.now)) }
 {
-    let mut next = 0;
+    let mut places = Places::AsTheyStand(live);
+    let (mut next, mut misses) = (0, 0);
     for child in config {
-        match places.find_near(live, next, &child.0) {
+        places = places.after_misses(alloc, live, misses)?;
+        let found = places.find_near(live, next, &child.0);
+        misses = count_misses(misses, next, found);
+        match found {
             Some(place) => {
                 if place < next {
-                    return false;
+                    return Ok(None);
                 }
                 next = place + 1;
             }
             None => (),
         }
     }
-    true
+    Ok(Some(places))
 }
 
-// Whether no items of both places are in another order: only lists have one.
-fn stand_in_order(live: &Node, places: &Places, config: &Node) -> bool
+// The live places, where no items of both are in another order: only lists have one.
+fn places_in_one_order<'a>(
+    alloc: Global,
+    live: &'a Node,
+    config: &Node,
+) -> Result<Option<Places<'a>>, AllocError>
     requires live { is_tree live.now ≡ true }
     requires config { is_tree config.now ≡ true }
-    requires places { ArePlacesOf (below live.now) places.now }
-    ensures { result ≡ not (is_reordered (Some (own_content live.now)) (Some (own_content config.now))) }
+    ensures order { IfOk result (λ found. is_some found ≡ not (is_reordered (Some (own_content live.now)) (Some (own_content config.now)))) }
+    ensures places { IfOk result (λ found. IfSome found (ArePlacesOf (below live.now))) }
 {
     match (live, config) {
-        (Node::List(own), Node::List(others)) => places_rise(own, places, others),
-        _ => true,
+        (Node::List(own), Node::List(others)) => rising_places(alloc, own, others),
+        _ => Ok(Some(Places::below(live))),
     }
 }
 
 /// Whether, wherever both trees have a list, the items of both stand in one order.
 ///
-/// Where the children of both are alike nothing is looked for and no memory is taken; else takes about
-/// n log n comparisons for n items of a list.
+/// Where the children of both are alike nothing is looked for and no memory is taken, and where the order is another this is
+/// told by the first items mostly; else takes about n log n comparisons for n items of a list.
 pub(crate) fn keeps_order(alloc: Global, live: &Node, config: &Node) -> Result<bool, AllocError>
     requires live { is_tree live.now ≡ true }
     requires config { is_tree config.now ≡ true }
     ensures { IfOk result (λ b. IsTrue b ↔ TreeKeepsOrder live.now config.now) }
 {
-    let (own, others) = (live.children(), config.children());
-    let places = &Places::beside(alloc, live, others)?;
-    if !stand_in_order(live, places, config) {
+    let Some(places) = places_in_one_order(alloc, live, config)? else {
         return Ok(false);
-    }
+    };
+    let places = &places;
+    let (own, others) = (live.children(), config.children());
     let mut near = 0;
     for child in others {
         match places.find_near(own, near, &child.0) {

@@ -6,11 +6,14 @@ ghost use Rattle.ssa_typed.specs.InOrder.{IsInOrder};
 ghost use Rattle.ssa_typed.specs.MergedOrder.{beside, is_new, lent_place, places, ArePlacesOf};
 ghost use Rattle.ssa_typed.specs.Rows.{are_apart, below, is_tree};
 
-use crate::in_order::stand_alike;
+use crate::live_places::live_places;
 use crate::node::Node;
 use ssa_path::children::{FEW, find, scan};
 use ssa_path::element::Elem;
 use std::alloc::{AllocError, Global};
+
+// So many children are looked for among all that stand there before these are put in order.
+const MOST_SCANS: usize = 4;
 
 /// The children of a configuration's place, none of them lost.
 #[derive(Drop)]
@@ -77,25 +80,34 @@ impl<'a> Places<'a> {
         Ok(Places::InOrder(sorted))
     }
 
-    // The places of the children of a live node, to be found for these others. Where both stand alike nothing has to be looked
-    // for, and the fields of a record and the entries of a Dict rise.
-    pub(crate) fn beside(
-        alloc: Global,
-        live: &'a Node,
-        others: &[(Elem, Node)],
-    ) -> Result<Places<'a>, AllocError>
+    // The places of the children of a live node: the fields of a record and the entries of a Dict rise.
+    pub(crate) fn below(live: &'a Node) -> Places<'a>
         requires { is_tree live.now ≡ true }
-        ensures { IfOk result (ArePlacesOf (below live.now)) }
+        ensures { ArePlacesOf (below live.now) result }
     {
         let children = live.children();
-        if stand_alike(children, others) {
-            return Ok(Places::AsTheyStand(children));
-        }
         match live {
-            Node::Leaf(_) => Ok(Places::AsTheyStand(children)),
-            Node::Branch(_) => Ok(Places::Rising(children)),
-            Node::Dict(_) => Ok(Places::Rising(children)),
-            Node::List(_) => Places::of(alloc, children),
+            Node::Leaf(_) => Places::AsTheyStand(children),
+            Node::Branch(_) => Places::Rising(children),
+            Node::Dict(_) => Places::Rising(children),
+            Node::List(_) => Places::AsTheyStand(children),
+        }
+    }
+
+    // The same places, put in order once children were not found near so often.
+    pub(crate) fn after_misses(
+        self,
+        alloc: Global,
+        live: &'a [(Elem, Node)],
+        misses: usize,
+    ) -> Result<Places<'a>, AllocError>
+        requires places { ArePlacesOf live.now self }
+        requires apart { are_apart (elements live.now) ≡ true }
+        ensures { IfOk result (ArePlacesOf live.now) }
+    {
+        match self {
+            Places::AsTheyStand(_) if misses >= MOST_SCANS => Places::of(alloc, live),
+            places => Ok(places),
         }
     }
 
@@ -154,7 +166,7 @@ fn put(place: &mut Option<(Elem, Node)>, child: (Elem, Node))
 /// The configuration's children, each moved beside the live child of its element or among the new
 /// ones.
 ///
-/// Takes about n log n comparisons of elements, however they are chosen.
+/// Takes about n log n comparisons, however the elements are chosen.
 pub fn sorted_out(
     alloc: Global,
     live: &[(Elem, Node)],
@@ -165,11 +177,14 @@ pub fn sorted_out(
     ensures beside { IfOk result (λ s. s.beside.items ≡ map (beside config.items) live.now) }
     ensures new { IfOk result (λ s. s.new.items ≡ filter (is_new live.now) config.items) }
 {
-    let places = &Places::of(alloc, live)?;
+    let found = live_places(alloc, live, &config)?;
     let mut beside = none_beside(alloc, live)?;
     let mut new = Vec::new(alloc);
+    let mut i = 0;
     for child in config {
-        match places.find(&child.0) {
+        let place = found[i];
+        i += 1;
+        match place {
             Some(place) => put(&mut beside[place], child),
             None => new.push(child)?,
         }

@@ -1,20 +1,36 @@
+use Rattle.std.proofs.Common.{◌∙◌}
 use Rattle.std.specs.Vec.Iter.{into_iter_items}
+use Rattle.ssa_typed.proofs.LivePlaces.{placed-here, placed-on}
 use Rattle.ssa_typed.proofs.Refilling.{turning-new, turning-own}
 use Rattle.ssa_typed.proofs.in_turn.in_turn.Goals as goal
 
-pub find-requires : goal.find-requires
-find-requires c = (c.args.live.now, c.in_ok-found.ensures)
+pub loop-child-preserved-in-Continue-branch-5 : goal.loop-child-preserved-in-Continue-branch-5
+loop-child-preserved-in-Continue-branch-5 c =
+    let cs = c.args.live.now in
+    let l = c.loop-child in
+    let all = into_iter_items l.child-iterator in
+    let left = into_iter_items c.next.new.self in
+    let d = c.in-Some.child in
+    let is = c.in-Some.ensures.steps.0 in
+    let found = c.in_ok-found.found.items in
+    let here = placed-here cs all left d found l.i is l.invariant.1 c.index-place.result.now c.index-place.ensures in (
+      turning-own cs c.args.config.items all left l.places.keys l.own.items l.new.items d c.requires.config is l.invariant.0 c.in-Some-place.place
+          c.insert.new.self.keys c.push.new.self.items (here ∙ c.in-Some-place.is) c.in_ok-insert-in-Some-place.ensures.keys
+          c.in_ok-push-in-Some-place.ensures.items,
+      placed-on cs all left d found l.i is l.invariant.1,
+    )
 
 pub loop-child-preserved : goal.loop-child-preserved
 loop-child-preserved c =
+    let cs = c.args.live.now in
     let l = c.loop-child in
-    turning-new c.args.live.now c.args.config.items (into_iter_items l.child-iterator) (into_iter_items c.next.new.self) l.places.keys l.own.items l.new.items
-    c.in-Some.child c.requires.config c.in-Some.ensures.steps.0 l.invariant c.push-in-None-find.new.self.items
-    (c.in-None-find.ensures c.args.live.now c.in_ok-found.ensures) c.in_ok-push-in-None-find.ensures.items
-
-pub loop-child-preserved-in_ok-push-in-Some-find : goal.loop-child-preserved-in_ok-push-in-Some-find
-loop-child-preserved-in_ok-push-in-Some-find c =
-    let l = c.loop-child in
-    turning-own c.args.live.now c.args.config.items (into_iter_items l.child-iterator) (into_iter_items c.next.new.self) l.places.keys l.own.items l.new.items
-    c.in-Some.child c.requires.config c.in-Some.ensures.steps.0 l.invariant c.in-Some-find.place c.insert.new.self.keys c.push.new.self.items
-    (c.in-Some-find.ensures c.args.live.now c.in_ok-found.ensures) c.in_ok-insert-in-Some-find.ensures.keys c.in_ok-push-in-Some-find.ensures.items
+    let all = into_iter_items l.child-iterator in
+    let left = into_iter_items c.next.new.self in
+    let d = c.in-Some.child in
+    let is = c.in-Some.ensures.steps.0 in
+    let found = c.in_ok-found.found.items in
+    let here = placed-here cs all left d found l.i is l.invariant.1 c.index-place.result.now c.index-place.ensures in (
+      turning-new cs c.args.config.items all left l.places.keys l.own.items l.new.items d c.requires.config is l.invariant.0
+          c.push-in-None-place.new.self.items (here ∙ c.in-None-place.is) c.in_ok-push-in-None-place.ensures.items,
+      placed-on cs all left d found l.i is l.invariant.1,
+    )

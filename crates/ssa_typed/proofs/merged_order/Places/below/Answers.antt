@@ -2,7 +2,7 @@ use Rattle.std.proofs.Common.{ap, ◌∙◌}
 use Rattle.ssa_path.specs.Children.{elements, rises}
 use Rattle.ssa_typed.specs.Rows.{below}
 use Rattle.ssa_typed.proofs.OverNodes.{below-Branch, below-Dict, dict-rises, record-rises}
-use Rattle.ssa_typed.proofs.merged_order.Places.beside.Goals as goal
+use Rattle.ssa_typed.proofs.merged_order.Places.below.Goals as goal
 
 pub returns-in-Branch : goal.returns-in-Branch
 returns-in-Branch c =

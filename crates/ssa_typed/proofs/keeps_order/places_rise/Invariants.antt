@@ -1,5 +1,0 @@
-use Rattle.ssa_typed.proofs.InOneOrder.{IsOrderedSoFar}
-use Rattle.ssa_typed.proofs.keeps_order.places_rise.Given as goal
-
-abbrev pub invariant-loop-child : goal.invariant-loop-child
-invariant-loop-child l = IsOrderedSoFar l.live l.config l.next l.child-index
