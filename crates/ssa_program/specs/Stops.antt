@@ -1,0 +1,52 @@
+-- Where a call stops that does not come to its outcome, and what it then leaves.
+use Rattle.std.specs.Prelude.{◌≡◌, ◌⊎◌, Result, Ok, Err}
+use Rattle.ssa_model.specs.definitions.Json.{Text}
+use Rattle.ssa_model.specs.definitions.Files.{schema_of_file, bench_of_file}
+use Rattle.ssa_model.specs.definitions.History.{Bench}
+use Rattle.ssa_model.specs.definitions.Schema.{Schema}
+use Rattle.ssa_json.specs.Readings.{readings}
+use Rattle.ssa_disk.specs.Files.{Files, Standing, under}
+use Rattle.ssa_session.specs.Files.{IsGivenFile}
+use Rattle.ssa_session.specs.declared.files.FileFault.{FileFault}
+use Rattle.ssa_program.specs.Outcome.{IsInput, IsLoadOf}
+use Rattle.ssa_program.specs.declared.trouble.Trouble.{Trouble}
+use Rattle.ssa_program.specs.declared.trouble.Trouble.TheVariants.{Load, File, SessionBroken, CannotPrint, SavedUnprinted}
+
+-- A call stops before it has written or saved anything, at its reply, or within a session.
+module _ (Before AtReply InSession : Type 0) where
+  abbrev pub Stops : Trouble → Type 0
+  Stops CannotPrint = AtReply
+  Stops (SavedUnprinted name) = AtReply
+  Stops SessionBroken = InSession
+  Stops _ = Before
+
+-- no file is told to be refused
+abbrev pub IsNoFault : Trouble → Type 0
+IsNoFault (File f) = ⊥
+IsNoFault (Load f) = ⊥
+IsNoFault _ = Unit {0}
+
+-- what stands there is told as no bench only where loading it is refused so
+abbrev pub IsUnloaded : Standing → Trouble → Type 0
+IsUnloaded s (Load f) = IsLoadOf s (Err f)
+IsUnloaded s _ = Unit {0}
+
+-- the fault is that of the schema file, or of the object file under its schema
+pub record IsSchemaRefused (files : Files) (schema : Text) (f : FileFault) : Type 0 where
+  pub bytes : Text
+  pub is_read : IsInput (under files schema) bytes
+  pub refused : IsGivenFile {A = Schema} (Err f) (schema_of_file readings bytes)
+
+pub record IsObjectRefused (files : Files) (schema object : Text) (f : FileFault) : Type 0 where
+  pub schema_bytes : Text
+  pub is_schema : IsInput (under files schema) schema_bytes
+  pub schema_read : Schema
+  pub is_schema_read : schema_of_file readings schema_bytes ≡ Ok schema_read
+  pub bytes : Text
+  pub is_read : IsInput (under files object) bytes
+  pub refused : IsGivenFile {A = Bench} (Err f) (bench_of_file readings schema_read bytes)
+
+abbrev pub IsUnmade : Files → Text → Text → Trouble → Type 0
+IsUnmade files schema object (File f) = IsSchemaRefused files schema f ⊎ IsObjectRefused files schema object f
+IsUnmade files schema object (Load f) = ⊥
+IsUnmade files schema object _ = Unit {0}
