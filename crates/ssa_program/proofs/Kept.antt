@@ -22,8 +22,24 @@ joined n old mid new a b = record {
   others = λ p elsewhere. b.others p (λ here. elsewhere (here ∙ (λ i. a.place i n))) ∙ a.others p elsewhere;
 }
 
+-- the draft is made and the text is put, under these names or others that are the same
+pub put_after : (text draft draft_name place place_name : Text) (old locked new : Files) → draft ≡ draft_name → place ≡ place_name
+    → IsAsBut draft old locked → IsPut text draft place locked new → IsPut text draft_name place_name old new
+put_after text draft draft_name place place_name old locked new same_draft same_place a k = record {
+  saved = (λ i. new.at (new.place (sym same_place i))) ∙ k.saved;
+  others = record {
+    own = k.others.own ∙ a.own;
+    place = k.others.place ∙ a.place;
+    others = λ p not_draft not_place.
+        k.others.others p
+        (λ is. not_draft (is ∙ (λ i. a.place i draft) ∙ (λ i. old.place (same_draft i))))
+        (λ is. not_place (is ∙ (λ i. a.place i place) ∙ (λ i. old.place (same_place i))))
+        ∙ a.others p (λ is. not_draft (is ∙ (λ i. old.place (same_draft i))));
+  };
+}
+
 -- the draft is made, the text is put, and the draft has gone with it
-saved : (text bench draft place : Text) (old locked new : Files) → draft ≡ draft_of old bench → old.place place ≡ old.place bench
+pub saved : (text bench draft place : Text) (old locked new : Files) → draft ≡ draft_of old bench → old.place place ≡ old.place bench
     → IsAsBut draft old locked → IsPut text draft place locked new → IsPut text (draft_of old bench) bench old new
 saved text bench draft place old locked new same leads a k =
     let places = k.others.place ∙ a.place in
@@ -76,9 +92,16 @@ pub ends : (Is : Files → Outcome → Type 0) (Writes : Text → Type 0) (s : S
     → (placed ≡ true → new ≡ last) → IsAsBut draft last new
     → EndsAs (Is locked) (λ text. IsKeptBy text placed draft place locked last) Writes s
     → WithDraft bench old (λ files. EndsAs (Is files) (λ text. IsKept text bench old new) Writes s)
-ends Is Writes s placed bench draft place old locked last new same leads a stays ended e =
-    let to = comes Is Writes placed bench draft place old locked last new same leads a stays ended e.comes_to in record {
-      locked = locked;
-      draft = to.draft;
-      work = record { comes_to = to.work; status = e.status };
-    }
+ends Is Writes s placed bench draft place old locked last new same leads a stays ended e = record {
+  locked = locked;
+  draft = subst (λ d. IsAsBut d old locked) same a;
+  work = record {
+    comes_to = record {
+      outcome = e.comes_to.outcome;
+      is = e.comes_to.is;
+      keeps = kept e.comes_to.outcome.saved placed bench draft place old locked last new same leads a e.comes_to.keeps stays ended;
+      writes = e.comes_to.writes;
+    };
+    status = e.status;
+  };
+}

@@ -1,5 +1,5 @@
 -- What a call has done at its end, by its words: its outcome, or where it stopped.
-use Rattle.std.specs.Prelude.{◌≡◌, ◌++◌, ◌∷◌, [], ◌⊎◌, Bool, Option, Some, None}
+use Rattle.std.specs.Prelude.{◌≡◌, ◌++◌, ◌∷◌, [], ◌⊎◌, ℕ, Bool, Option, Some, None}
 use Rattle.std.specs.Io.KnownBytes.{Appends}
 use Rattle.ssa_model.specs.definitions.BenchText.{depths}
 use Rattle.ssa_model.specs.definitions.History.{Bench}
@@ -13,7 +13,7 @@ use Rattle.ssa_words.specs.declared.call.Call.{Call}
 use Rattle.ssa_words.specs.declared.call.Call.TheVariants.{Init, Apply, Update, Strip, Undo, Redo, Show, Owners, Log, Session}
 use Rattle.ssa_program.specs.Kept.{IsKept}
 use Rattle.ssa_program.specs.Outcome.{Outcome, IsAnswered, IsBenchAt, IsChanged, IsMade, IsSeen}
-use Rattle.ssa_program.specs.Stops.{Stops, IsUnloaded, IsUnmade}
+use Rattle.ssa_program.specs.Stops.{Stops, IsUnchanged, IsUnloaded, IsUnmade, IsUnsaved}
 use Rattle.ssa_program.specs.Telling.{IsCut}
 use Rattle.ssa_program.specs.declared.status.Status.{Status}
 use Rattle.ssa_program.specs.declared.status.Status.TheVariants.{Done}
@@ -74,7 +74,7 @@ module _ (old new : Files) {W : Type 0} (contents : W → Option Text) (has_fail
 
   abbrev pub ChangeStops : Text → (Files → Outcome → Type 0) → Trouble → Type 0
   ChangeStops bench Is t = Stops
-      (IsLeft bench × Unsaid × WithDraft bench old (λ files. IsUnloaded (under files bench) t))
+      (IsLeft bench × Unsaid × WithDraft bench old (λ files. IsUnchanged (under files bench) (Is files) t))
       (WithDraft bench old (λ files. ComesTo (Is files) (Keeps bench) Cuts))
       ⊥ t
 
@@ -88,13 +88,13 @@ module _ (old new : Files) {W : Type 0} (contents : W → Option Text) (has_fail
 
   -- ---- the making of a bench
 
-  abbrev pub Makes : Text → Text → Text → Status → Type 0
-  Makes schema object bench s = EndsAs (IsMade old schema object) (Keeps bench) Writes s
+  abbrev pub Makes : Text → Text → Text → ℕ → Status → Type 0
+  Makes schema object bench depth s = EndsAs (IsMade old schema object depth) (Keeps bench) Writes s
 
-  abbrev pub MakeStops : Text → Text → Text → Trouble → Type 0
-  MakeStops schema object bench t = Stops
-      (IsLeft bench × Unsaid × IsUnmade old schema object t)
-      (ComesTo (IsMade old schema object) (Keeps bench) Cuts)
+  abbrev pub MakeStops : Text → Text → Text → ℕ → Trouble → Type 0
+  MakeStops schema object bench depth t = Stops
+      (IsLeft bench × Unsaid × IsUnmade old schema object depth t)
+      (ComesTo (IsMade old schema object depth) (Keeps bench) Cuts)
       ⊥ t
 
   -- ---- a session, by what was left to be read before and after it
@@ -116,14 +116,15 @@ module _ (old new : Files) {W : Type 0} (contents : W → Option Text) (has_fail
     -- it is not saved: before it began, after its end, or because it broke off
     abbrev pub HoldStops : Text → Trouble → Type 0
     HoldStops bench t = Stops
-        (IsLeft bench × WithDraft bench old (λ files. (IsUnloaded (under files bench) t × Unsaid) ⊎ IsHeld files bench RunsToEnd))
+        (IsLeft bench × WithDraft bench old (λ files. (IsUnloaded (under files bench) t × Unsaid)
+        ⊎ IsHeld files bench (λ held after. RunsToEnd held after × IsUnsaved (Some (recorded_text depths after)) t)))
         ⊥
         (IsLeft bench × WithDraft bench old (λ files. IsHeld files bench Breaks)) t
 
     -- ---- a call
 
     abbrev pub IsDone : Call → Status → Type 0
-    IsDone (Init schema object bench) s = Makes schema.now object.now bench.now s
+    IsDone (Init schema object bench depth) s = Makes schema.now object.now bench.now depth s
     IsDone (Apply bench file at manager status force) s =
         Changes bench.now (λ files. IsChanged files bench.now file.now (Apply bench file at manager status force)) s
     IsDone (Update bench file at manager status) s =
@@ -137,7 +138,7 @@ module _ (old new : Files) {W : Type 0} (contents : W → Option Text) (has_fail
     IsDone (Session bench) s = Holds bench.now s
 
     abbrev pub IsStopped : Call → Trouble → Type 0
-    IsStopped (Init schema object bench) t = MakeStops schema.now object.now bench.now t
+    IsStopped (Init schema object bench depth) t = MakeStops schema.now object.now bench.now depth t
     IsStopped (Apply bench file at manager status force) t =
         ChangeStops bench.now (λ files. IsChanged files bench.now file.now (Apply bench file at manager status force)) t
     IsStopped (Update bench file at manager status) t =

@@ -1,9 +1,9 @@
 -- What the program does on a disk, by the words of its call and what stands under the names in them.
-use Rattle.std.specs.Prelude.{◌≡◌, ◌+◌, Bool, true, false, Option, Some, None, Result, Ok, Err, ◌⊎◌, if◌then◌else◌}
+use Rattle.std.specs.Prelude.{◌≡◌, ℕ, ◌+◌, Bool, true, false, Option, Some, None, Result, Ok, Err, ◌⊎◌, if◌then◌else◌}
 use Rattle.ssa_model.specs.definitions.Json.{Text}
 use Rattle.ssa_model.specs.definitions.Limits.{most_input_bytes, most_bench_bytes}
 use Rattle.ssa_model.specs.definitions.BenchText.{depths}
-use Rattle.ssa_model.specs.definitions.Files.{schema_of_file, bench_of_file}
+use Rattle.ssa_model.specs.definitions.Files.{schema_of_file, bench_with_file}
 use Rattle.ssa_model.specs.definitions.History.{Bench}
 use Rattle.ssa_model.specs.definitions.Parts as part
 use Rattle.ssa_model.specs.definitions.RecordedBench.{recorded_text}
@@ -88,8 +88,8 @@ pub record IsChanged (files : Files) (bench file : Text) (call : Call) (o : Outc
   pub is_asked : IsAskedBy call object asked
   pub answered : IsAnswered files bench asked o
 
--- a bench is made of a schema file and an object file
-pub record IsMade (files : Files) (schema object : Text) (o : Outcome) : Type 0 where
+-- a bench of this depth is made of a schema file and an object file
+pub record IsMade (files : Files) (schema object : Text) (depth : ℕ) (o : Outcome) : Type 0 where
   pub schema_bytes : Text
   pub is_schema : IsInput (under files schema) schema_bytes
   pub schema_read : Schema
@@ -97,7 +97,7 @@ pub record IsMade (files : Files) (schema object : Text) (o : Outcome) : Type 0 
   pub object_bytes : Text
   pub is_object : IsInput (under files object) object_bytes
   pub made : Bench
-  pub is_made : bench_of_file readings schema_read object_bytes ≡ Ok made
+  pub is_made : bench_with_file readings depth schema_read object_bytes ≡ Ok made
   pub outcome : o ≡ record { line = init_text made; status = Done; saved = Some (recorded_text depths made) }
 
 -- the bench that is there is looked at, and nothing is saved

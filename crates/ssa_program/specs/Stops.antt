@@ -1,16 +1,17 @@
 -- Where a call stops that does not come to its outcome, and what it then leaves.
-use Rattle.std.specs.Prelude.{◌≡◌, ◌⊎◌, Result, Ok, Err}
+use Rattle.std.specs.Prelude.{◌≡◌, ◌<◌, ℕ, ◌⊎◌, Option, Some, None, Result, Ok, Err, length}
 use Rattle.ssa_model.specs.definitions.Json.{Text}
-use Rattle.ssa_model.specs.definitions.Files.{schema_of_file, bench_of_file}
+use Rattle.ssa_model.specs.definitions.Files.{schema_of_file, bench_with_file}
 use Rattle.ssa_model.specs.definitions.History.{Bench}
+use Rattle.ssa_model.specs.definitions.Limits.{most_bench_bytes}
 use Rattle.ssa_model.specs.definitions.Schema.{Schema}
 use Rattle.ssa_json.specs.Readings.{readings}
 use Rattle.ssa_disk.specs.Files.{Files, Standing, under}
 use Rattle.ssa_session.specs.Files.{IsGivenFile}
 use Rattle.ssa_session.specs.declared.files.FileFault.{FileFault}
-use Rattle.ssa_program.specs.Outcome.{IsInput, IsLoadOf}
+use Rattle.ssa_program.specs.Outcome.{IsInput, IsLoadOf, IsMade, Outcome}
 use Rattle.ssa_program.specs.declared.trouble.Trouble.{Trouble}
-use Rattle.ssa_program.specs.declared.trouble.Trouble.TheVariants.{Load, File, SessionBroken, CannotPrint, SavedUnprinted}
+use Rattle.ssa_program.specs.declared.trouble.Trouble.TheVariants.{CannotRead, CannotWrite, NoPlainFile, OwnSource, DraftIsThere, Load, File, BenchTooLong, OutOfMemory, SessionBroken, CannotPrint, SavedUnprinted}
 
 -- A call stops before it has written or saved anything, at its reply, or within a session.
 module _ (Before AtReply InSession : Type 0) where
@@ -20,16 +21,41 @@ module _ (Before AtReply InSession : Type 0) where
   Stops SessionBroken = InSession
   Stops _ = Before
 
--- no file is told to be refused
+-- no file is told to be refused, and no bench to be too long
 abbrev pub IsNoFault : Trouble → Type 0
 IsNoFault (File f) = ⊥
 IsNoFault (Load f) = ⊥
+IsNoFault BenchTooLong = ⊥
 IsNoFault _ = Unit {0}
 
 -- what stands there is told as no bench only where loading it is refused so
 abbrev pub IsUnloaded : Standing → Trouble → Type 0
 IsUnloaded s (Load f) = IsLoadOf s (Err f)
-IsUnloaded s _ = Unit {0}
+IsUnloaded s t = IsNoFault t
+
+-- ---- the text that was to be saved
+
+-- it is longer than a bench's file may be
+abbrev pub IsTooLong : Option Text → Type 0
+IsTooLong (Some text) = most_bench_bytes < length text
+IsTooLong None = ⊥
+
+-- it is told as too long only where it is
+abbrev pub IsUnsaved : Option Text → Trouble → Type 0
+IsUnsaved saved BenchTooLong = IsTooLong saved
+IsUnsaved saved t = IsNoFault t
+
+-- the same of the outcome to which the call would have come
+pub record IsOutcomeTooLong (Is : Outcome → Type 0) : Type 0 where
+  pub outcome : Outcome
+  pub is : Is outcome
+  pub too_long : IsTooLong outcome.saved
+
+abbrev pub IsUnchanged : Standing → (Outcome → Type 0) → Trouble → Type 0
+IsUnchanged s Is BenchTooLong = IsOutcomeTooLong Is
+IsUnchanged s Is t = IsUnloaded s t
+
+-- ---- the files of which a bench is to be made
 
 -- the fault is that of the schema file, or of the object file under its schema
 pub record IsSchemaRefused (files : Files) (schema : Text) (f : FileFault) : Type 0 where
@@ -37,16 +63,16 @@ pub record IsSchemaRefused (files : Files) (schema : Text) (f : FileFault) : Typ
   pub is_read : IsInput (under files schema) bytes
   pub refused : IsGivenFile {A = Schema} (Err f) (schema_of_file readings bytes)
 
-pub record IsObjectRefused (files : Files) (schema object : Text) (f : FileFault) : Type 0 where
+pub record IsObjectRefused (files : Files) (schema object : Text) (depth : ℕ) (f : FileFault) : Type 0 where
   pub schema_bytes : Text
   pub is_schema : IsInput (under files schema) schema_bytes
   pub schema_read : Schema
   pub is_schema_read : schema_of_file readings schema_bytes ≡ Ok schema_read
   pub bytes : Text
   pub is_read : IsInput (under files object) bytes
-  pub refused : IsGivenFile {A = Bench} (Err f) (bench_of_file readings schema_read bytes)
+  pub refused : IsGivenFile {A = Bench} (Err f) (bench_with_file readings depth schema_read bytes)
 
-abbrev pub IsUnmade : Files → Text → Text → Trouble → Type 0
-IsUnmade files schema object (File f) = IsSchemaRefused files schema f ⊎ IsObjectRefused files schema object f
-IsUnmade files schema object (Load f) = ⊥
-IsUnmade files schema object _ = Unit {0}
+abbrev pub IsUnmade : Files → Text → Text → ℕ → Trouble → Type 0
+IsUnmade files schema object depth (File f) = IsSchemaRefused files schema f ⊎ IsObjectRefused files schema object depth f
+IsUnmade files schema object depth BenchTooLong = IsOutcomeTooLong (IsMade files schema object depth)
+IsUnmade files schema object depth t = IsNoFault t

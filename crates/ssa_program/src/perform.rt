@@ -1,5 +1,5 @@
 //! Carries out what the words of the program ask for.
-ghost use Rattle.std.specs.Prelude.{◌≡◌, ◌++◌, ◌∷◌, ◌<◌, ◌⊎◌, [], Some, Ok, Err, true, codes, IfErr, IfOk, OnErr, OnOk, string_bytes};
+ghost use Rattle.std.specs.Prelude.{◌≡◌, ◌++◌, ◌∷◌, ◌<◌, ◌⊎◌, [], None, Some, Ok, Err, true, codes, if◌then◌else◌, IfErr, IfOk, OnErr, OnOk, string_bytes};
 ghost use Rattle.std.specs.Io.KnownBytes.{Appends};
 ghost use Rattle.ssa_model.specs.definitions.BenchText.{depths};
 ghost use Rattle.ssa_model.specs.definitions.Files.{bench_with_file, schema_of_file};
@@ -21,8 +21,9 @@ ghost use Rattle.ssa_program.specs.Kept.{IsKeptBy, IsPut};
 ghost use Rattle.ssa_program.specs.Outcome.{IsAnswered, IsAskedBy, IsChange, IsChanged, IsSeen, part_of, saved_for};
 ghost use Rattle.ssa_program.specs.Performed.{IsPerformed};
 ghost use Rattle.ssa_program.specs.Status.{status_for};
-ghost use Rattle.ssa_program.specs.Stops.{IsNoFault, IsUnloaded, Stops};
+ghost use Rattle.ssa_program.specs.Stops.{IsNoFault, IsUnchanged, IsUnloaded, IsUnsaved, Stops};
 ghost use Rattle.ssa_program.specs.Telling.{IsCut};
+ghost use Rattle.ssa_program.specs.Trouble.{IsSaveTrouble};
 ghost use Rattle.ssa_program.specs.declared.trouble.Trouble.TheVariants.{File};
 
 use crate::answer::{Reply, answer};
@@ -98,7 +99,10 @@ fn carry_out<'a, D: Disk, R: Source, W: Sink>(
             bench,
             depth,
         } => init(disk, alloc, writer, notes, schema, object, bench, depth),
-        Call::Apply { bench, file, .. } | Call::Update { bench, file, .. } => {
+        Call::Apply { bench, file, .. } => {
+            change_bench(disk, alloc, writer, notes, bench, file, call)
+        }
+        Call::Update { bench, file, .. } => {
             change_bench(disk, alloc, writer, notes, bench, file, call)
         }
         Call::Strip { bench } => move_bench(disk, alloc, writer, notes, bench, Asked::Strip),
@@ -169,9 +173,9 @@ fn init<'a, D: Disk, W: Sink>(
     depth: Depth,
 ) -> Result<Status, Trouble<'a>>
     ensures done { IfOk result (λ s. D.tells ≡ true → Makes (D.view disk.old) (D.view disk.new) W.contents W.has_failed writer.old writer.new
-        schema.now object.now bench.now s) }
+        schema.now object.now bench.now depth s) }
     ensures stopped { IfErr result (λ t. D.tells ≡ true → MakeStops (D.view disk.old) (D.view disk.new) W.contents W.has_failed writer.old writer.new
-        schema.now object.now bench.now t) }
+        schema.now object.now bench.now depth t) }
 {
     let place = place_of(disk, alloc, bench)?;
     if disk.is_file_of(&place, schema) || disk.is_file_of(&place, object) {
@@ -206,7 +210,7 @@ fn save_new<'a, D: Disk, W: Sink>(
         × (Appends (W.contents writer.old) (W.contents writer.new) (init_text bench.now ++ line_feed ∷ [])
         × IsPut (recorded_text depths bench.now) (string_bytes place.name ++ codes ".new") (string_bytes place.name) (D.view disk.old) (D.view disk.new))) }
     ensures stopped { IfErr result (λ t. D.tells ≡ true → Stops
-        (IsAsBut (string_bytes place.name ++ codes ".new") (D.view disk.old) (D.view disk.new) × ((writer.new ≡ writer.old) × IsNoFault t))
+        (IsAsBut (string_bytes place.name ++ codes ".new") (D.view disk.old) (D.view disk.new) × ((writer.new ≡ writer.old) × IsUnsaved (Some (recorded_text depths bench.now)) t))
         (IsCut W.contents W.has_failed writer.old writer.new (init_text bench.now ++ line_feed ∷ [])
         × IsPut (recorded_text depths bench.now) (string_bytes place.name ++ codes ".new") (string_bytes place.name) (D.view disk.old) (D.view disk.new))
         ⊥ t) }
@@ -304,7 +308,7 @@ fn change_locked<'a, D: Disk, W: Sink>(
         (λ saved. IsKeptBy saved draft.new.is_placed (string_bytes draft.old.name) (string_bytes draft.old.place.name) (D.view disk.old) (D.view disk.new))
         (Appends (W.contents writer.old) (W.contents writer.new)) s) }
     ensures stopped { IfErr result (λ t. D.tells ≡ true → D.Made.contents draft.old.made ≡ Some [] → Stops
-        (IsAsBut (string_bytes draft.old.name) (D.view disk.old) (D.view disk.new) × ((writer.new ≡ writer.old) × IsUnloaded (under (D.view disk.old) name.now) t))
+        (IsAsBut (string_bytes draft.old.name) (D.view disk.old) (D.view disk.new) × ((writer.new ≡ writer.old) × IsUnchanged (under (D.view disk.old) name.now) (IsChanged (D.view disk.old) name.now file.now call.now) t))
         (ComesTo (IsChanged (D.view disk.old) name.now file.now call.now)
         (λ saved. IsKeptBy saved draft.new.is_placed (string_bytes draft.old.name) (string_bytes draft.old.place.name) (D.view disk.old) (D.view disk.new))
         (IsCut W.contents W.has_failed writer.old writer.new))
@@ -353,7 +357,7 @@ fn move_locked<'a, D: Disk, W: Sink>(
         (λ saved. IsKeptBy saved draft.new.is_placed (string_bytes draft.old.name) (string_bytes draft.old.place.name) (D.view disk.old) (D.view disk.new))
         (Appends (W.contents writer.old) (W.contents writer.new)) s) }
     ensures stopped { IfErr result (λ t. D.tells ≡ true → D.Made.contents draft.old.made ≡ Some [] → Stops
-        (IsAsBut (string_bytes draft.old.name) (D.view disk.old) (D.view disk.new) × ((writer.new ≡ writer.old) × IsUnloaded (under (D.view disk.old) name.now) t))
+        (IsAsBut (string_bytes draft.old.name) (D.view disk.old) (D.view disk.new) × ((writer.new ≡ writer.old) × IsUnchanged (under (D.view disk.old) name.now) (IsAnswered (D.view disk.old) name.now (asked_view asked.entry)) t))
         (ComesTo (IsAnswered (D.view disk.old) name.now (asked_view asked.entry))
         (λ saved. IsKeptBy saved draft.new.is_placed (string_bytes draft.old.name) (string_bytes draft.old.place.name) (D.view disk.old) (D.view disk.new))
         (IsCut W.contents W.has_failed writer.old writer.new))
@@ -455,22 +459,44 @@ fn answer_and_save<'a, D: Disk, W: Sink>(
 
     // No reply stands before the file.
     ensures stopped { IfErr result (λ t. D.tells ≡ true → D.Made.contents draft.old.made ≡ Some [] → Stops
-        (IsAsBut (string_bytes draft.old.name) (D.view disk.old) (D.view disk.new) × ((writer.new ≡ writer.old) × IsNoFault t))
+        (IsAsBut (string_bytes draft.old.name) (D.view disk.old) (D.view disk.new)
+        × ((writer.new ≡ writer.old) × IsUnsaved (saved_for bench.old (asked_view asked.entry)) t))
         (IsCut W.contents W.has_failed writer.old writer.new ((asked_answer readings bench.old (asked_view asked.entry)).0 ++ line_feed ∷ [])
         × IsKeptBy (saved_for bench.old (asked_view asked.entry)) draft.new.is_placed
         (string_bytes draft.old.name) (string_bytes draft.old.place.name) (D.view disk.old) (D.view disk.new))
         ⊥ t) }
 {
     let reply = answer(alloc, bench, asked)?;
-    let mut saved = None;
-    if reply.is_change {
-        put_draft(disk, alloc, draft, name, bench)?;
-        saved = Some(name);
-    }
+    let saved = save_change(disk, alloc, draft, name, bench, reply.is_change)?;
     if !reply.is_accepted {
         notes.about_command(alloc, bench, asked, file);
     }
     write_answer(writer, reply, saved)
+}
+
+// Saves the bench where its file has to be written, and then gives its name.
+fn save_change<'a, D: Disk>(
+    disk: &mut D,
+    alloc: Global,
+    draft: &mut Draft<D::Made, D::Found>,
+    name: &'a str,
+    bench: &Bench,
+    is_change: bool,
+) -> Result<Option<&'a str>, Trouble<'a>>
+    ensures own { draft.new.name ≡ draft.old.name }
+    ensures kept { OnOk result (D.tells ≡ true → D.Made.contents draft.old.made ≡ Some []
+        → IsKeptBy (if is_change then Some (recorded_text depths bench.now) else None) draft.new.is_placed
+        (string_bytes draft.old.name) (string_bytes draft.old.place.name) (D.view disk.old) (D.view disk.new)) }
+    ensures err { OnErr result (IsAsBut (string_bytes draft.old.name) (D.view disk.old) (D.view disk.new)) }
+    ensures trouble { IfErr result (λ t. (is_change ≡ true) × IsSaveTrouble name.now (recorded_text depths bench.now) t) }
+{
+    if !is_change {
+        return Ok(None);
+    }
+    match put_draft(disk, alloc, draft, name, bench) {
+        Ok(()) => Ok(Some(name)),
+        Err(trouble) => Err(trouble),
+    }
 }
 
 // Holds a session on the bench of a file. Until it ends, no other call may save the bench.
@@ -512,8 +538,9 @@ fn hold_locked<'a, D: Disk, R: Source, W: Sink>(
     ensures stopped { IfErr result (λ t. D.tells ≡ true → Stops
         (IsAsBut (string_bytes draft.old.name) (D.view disk.old) (D.view disk.new)
         × ((IsUnloaded (under (D.view disk.old) name.now) t × (writer.new ≡ writer.old))
-        ⊎ IsHeld (D.view disk.old) name.now
-        (RunsAll (R.remaining reader.old) (R.remaining reader.new) (W.contents writer.old) (W.contents writer.new))))
+        ⊎ IsHeld (D.view disk.old) name.now (λ held after.
+        RunsAll (R.remaining reader.old) (R.remaining reader.new) (W.contents writer.old) (W.contents writer.new) held after
+        × IsUnsaved (Some (recorded_text depths after)) t)))
         ⊥
         (IsAsBut (string_bytes draft.old.name) (D.view disk.old) (D.view disk.new)
         × IsHeld (D.view disk.old) name.now (λ held after.
@@ -543,11 +570,13 @@ fn hold_and_save<'a, D: Disk, R: Source, W: Sink>(
         (string_bytes draft.old.name) (string_bytes draft.old.place.name) (D.view disk.old) (D.view disk.new)) }
 
     // A session that broke off, or was not saved, leaves the file.
-    ensures stopped { IfErr result (Stops
-        (RunsAll (R.remaining reader.old) (R.remaining reader.new) (W.contents writer.old) (W.contents writer.new) bench.old bench.new)
+    ensures stopped { IfErr result (λ t. Stops
+        (RunsAll (R.remaining reader.old) (R.remaining reader.new) (W.contents writer.old) (W.contents writer.new) bench.old bench.new
+        × IsUnsaved (Some (recorded_text depths bench.new)) t)
         ⊥
         (RunsWhole (R.remaining reader.old) (R.remaining reader.new) (W.contents writer.old) (W.contents writer.new) bench.old bench.new
-        ⊎ RunsPartly (R.remaining reader.old) (R.remaining reader.new) (W.contents writer.old) (W.contents writer.new) bench.old bench.new)) }
+        ⊎ RunsPartly (R.remaining reader.old) (R.remaining reader.new) (W.contents writer.old) (W.contents writer.new) bench.old bench.new)
+        t) }
     ensures left { OnErr result (IsAsBut (string_bytes draft.old.name) (D.view disk.old) (D.view disk.new)) }
 {
     match session(alloc, reader, writer, bench) {
