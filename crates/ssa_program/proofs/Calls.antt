@@ -1,6 +1,6 @@
 -- What a call comes to, by what its parts come to.
 use Rattle.std.specs.Prelude.{◌⊎◌, codes, if◌then◌else◌}
-use Rattle.std.proofs.Common.{◌≡◌, ◌++◌, ◌∷◌, [], ℕ, refl, sym, subst, ap, inl, inr, Bool, true, Option, Some, None, Result, Ok, Err}
+use Rattle.std.proofs.Common.{◌≡◌, ◌++◌, ◌∷◌, [], ℕ, refl, subst, ap, inr, Bool, true, Option, Some, None, Result, Ok, Err}
 use Rattle.std.specs.Result.{IfErr, IfOk, OnErr, OnOk}
 use Rattle.std.specs.Io.KnownBytes.{Appends}
 use Rattle.ssa_model.specs.definitions.BenchText.{depths}

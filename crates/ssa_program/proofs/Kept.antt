@@ -1,7 +1,7 @@
 -- What a call leaves on the disk, by what its steps leave.
-use Rattle.std.proofs.Common.{◌≡◌, ◌≢◌, ◌∙◌, ◌++◌, sym, subst, Bool, true, Option, Some, None}
+use Rattle.std.proofs.Common.{◌≡◌, ◌∙◌, sym, subst, Bool, true, Option, Some, None}
 use Rattle.ssa_model.specs.definitions.Json.{Text}
-use Rattle.ssa_disk.specs.Files.{Files, IsAsBut, IsAsButTwo, file, under, draft_of}
+use Rattle.ssa_disk.specs.Files.{Files, IsAsBut, draft_of}
 use Rattle.ssa_program.specs.Done.{ComesTo, EndsAs, WithDraft}
 use Rattle.ssa_program.specs.Kept.{IsKept, IsKeptBy, IsPut}
 use Rattle.ssa_program.specs.Outcome.{Outcome}

@@ -1,5 +1,5 @@
 -- A call that stops, told by other words.
-use Rattle.std.proofs.Common.{◌≡◌, ℕ, Option, Some}
+use Rattle.std.proofs.Common.{ℕ, Option, Some}
 use Rattle.ssa_program.specs.Outcome.{Outcome, IsMade}
 use Rattle.ssa_program.specs.Stops.{Stops, IsNoFault, IsUnchanged, IsUnloaded, IsUnmade, IsUnsaved}
 use Rattle.ssa_program.specs.Trouble.{IsDraftTrouble, IsLoadTrouble, IsPlaceTrouble, IsReadTrouble, IsSaveTrouble}

@@ -1,5 +1,5 @@
 -- What the program does on a disk, by the words of its call and what stands under the names in them.
-use Rattle.std.specs.Prelude.{◌≡◌, ℕ, ◌+◌, Bool, true, false, Option, Some, None, Result, Ok, Err, ◌⊎◌, if◌then◌else◌}
+use Rattle.std.specs.Prelude.{◌≡◌, ℕ, ◌+◌, Bool, true, false, Option, Some, None, Result, Ok, if◌then◌else◌}
 use Rattle.ssa_model.specs.definitions.Json.{Text}
 use Rattle.ssa_model.specs.definitions.Limits.{most_input_bytes, most_bench_bytes}
 use Rattle.ssa_model.specs.definitions.BenchText.{depths}
@@ -15,7 +15,7 @@ use Rattle.ssa_bench.specs.Loading.{Loads}
 use Rattle.ssa_disk.specs.Files.{Files, Standing, IsOpened, under}
 use Rattle.ssa_lines.specs.declared.loading.LoadFault.{LoadFault}
 use Rattle.ssa_words.specs.declared.call.Call.{Call}
-use Rattle.ssa_words.specs.declared.call.Call.TheVariants.{Init, Apply, Update, Strip, Undo, Redo, Show, Owners, Log, Session}
+use Rattle.ssa_words.specs.declared.call.Call.TheVariants.{Apply, Update}
 use Rattle.ssa_program.specs.Asked.{is_asked_accepted, is_asked_change}
 use Rattle.ssa_program.specs.Status.{status_for}
 use Rattle.ssa_program.specs.declared.status.Status.{Status}

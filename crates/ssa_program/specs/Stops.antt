@@ -1,5 +1,5 @@
 -- Where a call stops that does not come to its outcome, and what it then leaves.
-use Rattle.std.specs.Prelude.{◌≡◌, ◌<◌, ℕ, ◌⊎◌, Option, Some, None, Result, Ok, Err, length}
+use Rattle.std.specs.Prelude.{◌≡◌, ◌<◌, ℕ, ◌⊎◌, Option, Some, None, Ok, Err, length}
 use Rattle.ssa_model.specs.definitions.Json.{Text}
 use Rattle.ssa_model.specs.definitions.Files.{schema_of_file, bench_with_file}
 use Rattle.ssa_model.specs.definitions.History.{Bench}
@@ -11,7 +11,7 @@ use Rattle.ssa_session.specs.Files.{IsGivenFile}
 use Rattle.ssa_session.specs.declared.files.FileFault.{FileFault}
 use Rattle.ssa_program.specs.Outcome.{IsInput, IsLoadOf, IsMade, Outcome}
 use Rattle.ssa_program.specs.declared.trouble.Trouble.{Trouble}
-use Rattle.ssa_program.specs.declared.trouble.Trouble.TheVariants.{CannotRead, CannotWrite, NoPlainFile, OwnSource, DraftIsThere, Load, File, BenchTooLong, OutOfMemory, SessionBroken, CannotPrint, SavedUnprinted}
+use Rattle.ssa_program.specs.declared.trouble.Trouble.TheVariants.{Load, File, BenchTooLong, SessionBroken, CannotPrint, SavedUnprinted}
 
 -- A call stops before it has written or saved anything, at its reply, or within a session.
 module _ (Before AtReply InSession : Type 0) where

@@ -1,5 +1,5 @@
 -- The lines that tell why a call of the program does not come to its reply.
-use Rattle.std.specs.Prelude.{◌≡◌, ◌<◌, length, [], ◌∷◌, ◌++◌, ◌⊎◌, codes, string_bytes}
+use Rattle.std.specs.Prelude.{◌≡◌, ◌<◌, length, [], ◌++◌, ◌⊎◌, codes, string_bytes}
 use Rattle.ssa_model.specs.definitions.Json.{Text, compact}
 use Rattle.ssa_model.specs.definitions.Limits.{most_bench_bytes}
 use Rattle.ssa_model.specs.definitions.Faults.{bench_too_long}

@@ -1,4 +1,4 @@
-use Rattle.std.proofs.Common.{◌≡◌, ◌∙◌, ◌++◌, ◌∷◌, [], ℕ, List, true, codes, string_bytes, refl, sym, subst, ap}
+use Rattle.std.proofs.Common.{◌++◌, ◌∷◌, [], ℕ, List, codes, string_bytes, refl, sym, subst}
 use Rattle.std.specs.Io.KnownBytes.{Appends}
 use Rattle.ssa_model.specs.definitions.BenchText.{depths}
 use Rattle.ssa_model.specs.definitions.Lines.{line_feed}
