@@ -1,6 +1,6 @@
 -- What a call comes to, by what its parts come to.
-use Rattle.std.specs.Prelude.{◌⊎◌, codes, if◌then◌else◌}
-use Rattle.std.proofs.Common.{◌≡◌, ◌++◌, ◌∷◌, [], ℕ, refl, subst, ap, inr, Bool, true, Option, Some, None, Result, Ok, Err}
+use Rattle.std.specs.Prelude.{◌⊎◌, codes, if◌then◌else◌, is_some}
+use Rattle.std.proofs.Common.{◌≡◌, ◌∙◌, ◌++◌, ◌∷◌, [], ℕ, refl, sym, subst, ap, inr, Bool, true, false, Option, Some, None, Result, Ok, Err}
 use Rattle.std.specs.Result.{IfErr, IfOk, OnErr, OnOk}
 use Rattle.std.specs.Io.KnownBytes.{Appends}
 use Rattle.ssa_model.specs.definitions.BenchText.{depths}
@@ -16,10 +16,10 @@ use Rattle.ssa_json.specs.Readings.{readings}
 use Rattle.ssa_disk.specs.Files.{Files, Standing, IsAsBut, draft_of, under}
 use Rattle.ssa_program.specs.Asked.{is_asked_accepted, is_asked_change}
 use Rattle.ssa_program.specs.Done.{ChangeStops, Changes, ComesTo, EndsAs, IsHeld, LookStops, Looks, MakeStops, Makes, WithDraft}
-use Rattle.ssa_program.specs.Kept.{IsKeptBy, IsPut}
+use Rattle.ssa_program.specs.Kept.{IsKept, IsKeptBy, IsPut}
 use Rattle.ssa_program.specs.Outcome.{Outcome, IsBenchAt, IsInput, IsMade, IsSeen, answered, saved_for}
 use Rattle.ssa_program.specs.Status.{status_for}
-use Rattle.ssa_program.specs.Stops.{Stops, IsNoFault, IsUnchanged, IsUnloaded, IsUnsaved}
+use Rattle.ssa_program.specs.Stops.{Stops, IsNoFault, IsSaid, IsUnchanged, IsUnloaded, IsUnsaved}
 use Rattle.ssa_program.specs.Telling.{IsCut}
 use Rattle.ssa_program.specs.declared.status.Status.{Status}
 use Rattle.ssa_program.specs.declared.status.Status.TheVariants.{Done}
@@ -40,25 +40,27 @@ pub saved_change : (tells empty : Type 0) (held after : Bench) (asked : subcomma
 saved_change tells empty held after asked is_change placed draft place old new change last keeps told blank =
     subst (λ s. IsKeptBy s placed draft place old new) (λ i. if change i then Some (recorded_text depths (last i)) else None) (keeps told blank)
 
+some_if : (b : Bool) (x : Text) → is_some (if b then Some x else None) ≡ b
+some_if true x = refl
+some_if false x = refl
+
+-- something is saved where the command is a change
+pub said_change : (held : Bench) (asked : subcommands.Asked) (is_change saved : Bool) → is_change ≡ is_asked_change held asked → saved ≡ is_change
+    → saved ≡ is_some (saved_for held asked)
+said_change held asked is_change saved change told =
+    told ∙ change ∙ sym (some_if (is_asked_change held asked) (recorded_text depths (asked_answer readings held asked).1))
+
 -- ---- with a writer
 
 module _ {W : Type 0} (contents : W → Option Text) (has_failed : W → Bool) (writer writer_new : W) where
-  -- a reply that is cut ends the call at its reply
-  pub cut_stops : (A : Trouble → Type 0) (text : Text) (r : Result Status Trouble)
-      → IfErr r (Stops ⊥ (IsCut contents has_failed writer writer_new text) ⊥)
-      → IfErr r (λ t. Stops (A t) (IsCut contents has_failed writer writer_new text) ⊥ t)
-  cut_stops A text (Ok s) cut = tt
-  cut_stops A text (Err t) cut = stops ⊥ (IsCut contents has_failed writer writer_new text) ⊥ (A t) (IsCut contents has_failed writer writer_new text) ⊥
-      (λ no. absurd no) (λ cut_here. cut_here) (λ no. no) t cut
-
-  -- the same, and what is kept was kept before
-  pub cut_stops_kept : (A : Trouble → Type 0) (K tells empty : Type 0) (text : Text) (r : Result Status Trouble) → (tells → empty → K)
-      → IfErr r (Stops ⊥ (IsCut contents has_failed writer writer_new text) ⊥)
-      → IfErr r (λ t. tells → empty → Stops (A t) (IsCut contents has_failed writer writer_new text × K) ⊥ t)
-  cut_stops_kept A K tells empty text (Ok s) keeps cut = tt
-  cut_stops_kept A K tells empty text (Err t) keeps cut = λ told is.
-      stops ⊥ (IsCut contents has_failed writer writer_new text) ⊥ (A t) (IsCut contents has_failed writer writer_new text × K) ⊥
-      (λ no. absurd no) (λ cut_here. (cut_here, keeps told is)) (λ no. no) t cut
+  -- a reply that is cut ends the call at its reply, and what is kept was kept before
+  pub cut_stops : (A : Trouble → Type 0) (saved saved_for : Bool) (K tells empty : Type 0) (text : Text) (r : Result Status Trouble)
+      → saved ≡ saved_for → (tells → empty → K)
+      → IfErr r (Stops ⊥ (λ said. (said ≡ saved) × IsCut contents has_failed writer writer_new text) ⊥)
+      → IfErr r (λ t. tells → empty → Stops (A t) (λ said. IsCut contents has_failed writer writer_new text × ((said ≡ saved_for) × K)) ⊥ t)
+  cut_stops A saved saved_for K tells empty text (Ok s) same keeps cut = tt
+  cut_stops A saved saved_for K tells empty text (Err t) same keeps cut = λ told blank.
+      stops _ _ _ _ _ _ _ _ (λ no. absurd no) (λ c. (c.1, (c.0 ∙ same, keeps told blank))) (λ c. (c.1, (c.0 ∙ same, keeps told blank))) (λ no. no) t cut
 
   -- ---- a look
 
@@ -78,20 +80,25 @@ module _ {W : Type 0} (contents : W → Option Text) (has_failed : W → Bool) (
   }
   look_done tells files name asked held loads (Err t) writes ended = tt
 
+  look_cut : (files : Files) (name : Text) (asked : subcommands.Asked) (held : Bench) → IsBenchAt (under files name) held → (said : Bool)
+      → (said ≡ false) × IsCut contents has_failed writer writer_new ((asked_answer readings held asked).0 ++ line_feed ∷ [])
+      → ComesTo (IsSeen files name asked) (IsSaid said (λ saved. (saved ≡ None) × (files ≡ files))) (IsCut contents has_failed writer writer_new)
+  look_cut files name asked held loads said cut = record {
+    outcome = record { line = (asked_answer readings held asked).0; status = status_for (is_asked_accepted held asked); saved = None };
+    is = record { held = held; is_held = loads; outcome = refl };
+    keeps = (cut.0, (refl, refl));
+    writes = cut.1;
+  }
+
   pub look_stopped : (tells : Type 0) (files : Files) (name : Text) (asked : subcommands.Asked) (held : Bench) → (tells → IsBenchAt (under files name) held)
       → (r : Result Status Trouble)
       → IfErr r (λ t. Stops ((writer_new ≡ writer) × IsNoFault t)
-      (IsCut contents has_failed writer writer_new ((asked_answer readings held asked).0 ++ line_feed ∷ [])) ⊥ t)
+      (λ said. (said ≡ false) × IsCut contents has_failed writer writer_new ((asked_answer readings held asked).0 ++ line_feed ∷ [])) ⊥ t)
       → IfErr r (λ t. tells → LookStops files files contents has_failed writer writer_new name (IsSeen files name asked) t)
   look_stopped tells files name asked held loads (Ok s) stopped = tt
   look_stopped tells files name asked held loads (Err t) stopped = λ told.
-      stops _ _ _ _ _ _ (λ b. (refl, b.0, unloaded (under files name) t b.1))
-      (λ cut. record {
-        outcome = record { line = (asked_answer readings held asked).0; status = status_for (is_asked_accepted held asked); saved = None };
-        is = record { held = held; is_held = loads told; outcome = refl };
-        keeps = (refl, refl);
-        writes = cut;
-      }) (λ no. no) t stopped
+      stops _ _ _ _ _ _ _ _ (λ b. (refl, b.0, unloaded (under files name) t b.1))
+      (look_cut files name asked held (loads told) false) (look_cut files name asked held (loads told) true) (λ no. no) t stopped
 
   -- ---- a change, while its draft is there
 
@@ -115,19 +122,20 @@ module _ {W : Type 0} (contents : W → Option Text) (has_failed : W → Bool) (
 
     pub locked_stopped : (s : Standing)
         → IfErr r (λ t. tells → empty → Stops (IsAsBut draft old new × ((writer_new ≡ writer) × IsUnsaved (saved_for held asked) t))
-        (IsCut contents has_failed writer writer_new ((asked_answer readings held asked).0 ++ line_feed ∷ [])
-        × IsKeptBy (saved_for held asked) placed draft place old new) ⊥ t)
+        (λ said. IsCut contents has_failed writer writer_new ((asked_answer readings held asked).0 ++ line_feed ∷ [])
+        × IsSaid said (λ text. IsKeptBy text placed draft place old new) (saved_for held asked)) ⊥ t)
         → IfErr r (λ t. tells → empty → Stops (IsAsBut draft old new × ((writer_new ≡ writer) × IsUnchanged s Is t))
-        (ComesTo Is (λ text. IsKeptBy text placed draft place old new) (IsCut contents has_failed writer writer_new)) ⊥ t)
+        (λ said. ComesTo Is (IsSaid said (λ text. IsKeptBy text placed draft place old new)) (IsCut contents has_failed writer writer_new)) ⊥ t)
     locked_stopped s stopped =
         elim r as (λ v. IfErr v (λ t. tells → empty → Stops (IsAsBut draft old new × ((writer_new ≡ writer) × IsUnsaved (saved_for held asked) t))
-        (IsCut contents has_failed writer writer_new ((asked_answer readings held asked).0 ++ line_feed ∷ [])
-        × IsKeptBy (saved_for held asked) placed draft place old new) ⊥ t)
+        (λ said. IsCut contents has_failed writer writer_new ((asked_answer readings held asked).0 ++ line_feed ∷ [])
+        × IsSaid said (λ text. IsKeptBy text placed draft place old new) (saved_for held asked)) ⊥ t)
         → IfErr v (λ t. tells → empty → Stops (IsAsBut draft old new × ((writer_new ≡ writer) × IsUnchanged s Is t))
-        (ComesTo Is (λ text. IsKeptBy text placed draft place old new) (IsCut contents has_failed writer writer_new)) ⊥ t)) [
+        (λ said. ComesTo Is (IsSaid said (λ text. IsKeptBy text placed draft place old new)) (IsCut contents has_failed writer writer_new)) ⊥ t)) [
           | Ok v ↦ λ st. tt
           | Err t ↦ λ st told blank.
-              stops _ _ _ _ _ _ (λ b. (b.0, (b.1.0, unchanged_unsaved s Is (answered held asked) (is told) t b.1.1)))
+              stops _ _ _ _ _ _ _ _ (λ b. (b.0, (b.1.0, unchanged_unsaved s Is (answered held asked) (is told) t b.1.1)))
+              (λ b. record { outcome = answered held asked; is = is told; keeps = b.1; writes = b.0 })
               (λ b. record { outcome = answered held asked; is = is told; keeps = b.1; writes = b.0 })
               (λ no. no) t (st told blank)
         ] stopped
@@ -147,11 +155,11 @@ module _ {W : Type 0} (contents : W → Option Text) (has_failed : W → Bool) (
 
     pub change_stopped : (empty : Type 0) (Is : Files → Outcome → Type 0) → (tells → empty) → (r : Result Status Trouble)
         → IfErr r (λ t. tells → empty → Stops (IsAsBut draft locked last × ((writer_new ≡ writer) × IsUnchanged (under locked bench) (Is locked) t))
-        (ComesTo (Is locked) (λ text. IsKeptBy text placed draft place locked last) (IsCut contents has_failed writer writer_new)) ⊥ t)
+        (λ said. ComesTo (Is locked) (IsSaid said (λ text. IsKeptBy text placed draft place locked last)) (IsCut contents has_failed writer writer_new)) ⊥ t)
         → IfErr r (λ t. tells → ChangeStops old new contents has_failed writer writer_new bench Is t)
     change_stopped empty Is blank (Ok s) does = tt
     change_stopped empty Is blank (Err t) does = λ told.
-        stops _ _ _ _ _ _
+        stops _ _ _ _ _ _ _ _
         (λ b. (
           left bench draft old locked last new (same told) made b.0 ended,
           b.1.0,
@@ -161,8 +169,8 @@ module _ {W : Type 0} (contents : W → Option Text) (has_failed : W → Bool) (
             work = b.1.1;
           },
         ))
-        (λ to. comes Is (IsCut contents has_failed writer writer_new) placed bench draft place old locked last new
-        (same told) (leads told) made stays ended to)
+        (comes Is (IsCut contents has_failed writer writer_new) false placed bench draft place old locked last new (same told) (leads told) made stays ended)
+        (comes Is (IsCut contents has_failed writer writer_new) true placed bench draft place old locked last new (same told) (leads told) made stays ended)
         (λ no. no) t (does told (blank told))
 
 -- ---- a session
@@ -185,15 +193,16 @@ module _ (tells : Type 0) (All Breaks : Bench → Bench → Type 0) (Same : Type
     held_done empty (Err t) done runs keeps = tt
 
     pub held_stopped : (r : Result Status Trouble)
-        → IfErr r (λ t. Stops (All held after × IsUnsaved (Some (recorded_text depths after)) t) ⊥ (Breaks held after) t)
+        → IfErr r (λ t. Stops (All held after × IsUnsaved (Some (recorded_text depths after)) t) (λ said. ⊥) (Breaks held after) t)
         → OnErr r (IsAsBut draft old new)
         → IfErr r (λ t. tells → Stops
         (IsAsBut draft old new × ((IsUnloaded (under old name) t × Same) ⊎ IsHeld old name (λ h a. All h a × IsUnsaved (Some (recorded_text depths a)) t)))
-        ⊥ (IsAsBut draft old new × IsHeld old name (λ h a. Breaks h a)) t)
+        (λ said. ⊥) (IsAsBut draft old new × IsHeld old name (λ h a. Breaks h a)) t)
     held_stopped (Ok s) stopped leaves = tt
     held_stopped (Err t) stopped leaves = λ told.
-        stops _ _ _ _ _ _
+        stops _ _ _ _ _ _ _ _
         (λ b. (leaves, inr (record { held = held; is_held = loads told; after = after; runs = b })))
+        (λ no. no)
         (λ no. no)
         (λ b. (leaves, record { held = held; is_held = loads told; after = after; runs = b })) t stopped
 
@@ -230,15 +239,15 @@ module _ (tells : Type 0) (All Breaks : Bench → Bench → Type 0) (Same : Type
         → IfErr r (λ t. tells → Stops
         (IsAsBut draft locked last
         × ((IsUnloaded (under locked bench) t × Same) ⊎ IsHeld locked bench (λ h a. All h a × IsUnsaved (Some (recorded_text depths a)) t)))
-        ⊥ (IsAsBut draft locked last × IsHeld locked bench (λ h a. Breaks h a)) t)
+        (λ said. ⊥) (IsAsBut draft locked last × IsHeld locked bench (λ h a. Breaks h a)) t)
         → IfErr r (λ t. tells → Stops
         (IsAsBut (draft_of old bench) old new
         × WithDraft bench old (λ files. (IsUnloaded (under files bench) t × Same)
         ⊎ IsHeld files bench (λ h a. All h a × IsUnsaved (Some (recorded_text depths a)) t)))
-        ⊥ (IsAsBut (draft_of old bench) old new × WithDraft bench old (λ files. IsHeld files bench (λ h a. Breaks h a))) t)
+        (λ said. ⊥) (IsAsBut (draft_of old bench) old new × WithDraft bench old (λ files. IsHeld files bench (λ h a. Breaks h a))) t)
     session_stopped (Ok s) does = tt
     session_stopped (Err t) does = λ told.
-        stops _ _ _ _ _ _
+        stops _ _ _ _ _ _ _ _
         (λ b. (
           left bench draft old locked last new (same told) made b.0 ended,
           record {
@@ -247,6 +256,7 @@ module _ (tells : Type 0) (All Breaks : Bench → Bench → Type 0) (Same : Type
             work = b.1;
           },
         ))
+        (λ no. no)
         (λ no. no)
         (λ b. (
           left bench draft old locked last new (same told) made b.0 ended,
@@ -305,24 +315,28 @@ module _ {W : Type 0} (contents : W → Option Text) (has_failed : W → Bool) (
   }
   new_done (Err t) does = tt
 
+  new_cut : tells → (said : Bool) → (said ≡ true) × (IsCut contents has_failed writer writer_new (init_text made ++ line_feed ∷ [])
+      × IsPut (recorded_text depths made) (place ++ codes ".new") place old new)
+      → ComesTo (IsMade old schema object depth) (IsSaid said (λ saved. IsKept saved bench old new)) (IsCut contents has_failed writer writer_new)
+  new_cut told said b = record {
+    outcome = made_outcome made;
+    is = is told;
+    keeps = (b.0, make_put bench place old new made (own told) (leads told) b.1.1);
+    writes = b.1.0;
+  }
+
   pub new_stopped : (r : Result Status Trouble)
       → IfErr r (λ t. tells → Stops
       (IsAsBut (place ++ codes ".new") old new × ((writer_new ≡ writer) × IsUnsaved (Some (recorded_text depths made)) t))
-      (IsCut contents has_failed writer writer_new (init_text made ++ line_feed ∷ [])
-      × IsPut (recorded_text depths made) (place ++ codes ".new") place old new) ⊥ t)
+      (λ said. (said ≡ true) × (IsCut contents has_failed writer writer_new (init_text made ++ line_feed ∷ [])
+      × IsPut (recorded_text depths made) (place ++ codes ".new") place old new)) ⊥ t)
       → IfErr r (λ t. tells → MakeStops old new contents has_failed writer writer_new schema object bench depth t)
   new_stopped (Ok s) does = tt
   new_stopped (Err t) does = λ told.
-      stops _ _ _ _ _ _
+      stops _ _ _ _ _ _ _ _
       (λ b. (
         subst (λ d. IsAsBut d old new) (ap (λ n. n ++ codes ".new") (own told)) b.0,
         b.1.0,
         unmade_unsaved old schema object depth (made_outcome made) (is told) t b.1.1,
       ))
-      (λ b. record {
-        outcome = made_outcome made;
-        is = is told;
-        keeps = make_put bench place old new made (own told) (leads told) b.1;
-        writes = b.0;
-      })
-      (λ no. no) t (does told)
+      (new_cut told false) (new_cut told true) (λ no. no) t (does told)

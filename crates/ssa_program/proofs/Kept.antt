@@ -5,6 +5,7 @@ use Rattle.ssa_disk.specs.Files.{Files, IsAsBut, draft_of}
 use Rattle.ssa_program.specs.Done.{ComesTo, EndsAs, WithDraft}
 use Rattle.ssa_program.specs.Kept.{IsKept, IsKeptBy, IsPut}
 use Rattle.ssa_program.specs.Outcome.{Outcome}
+use Rattle.ssa_program.specs.Stops.{IsSaid}
 use Rattle.ssa_program.specs.declared.status.Status.{Status}
 
 -- a call that has changed nothing has left all but the draft
@@ -71,18 +72,18 @@ kept (Some text) placed bench draft place old locked last new same leads a k sta
     subst (λ f. IsPut text (draft_of old bench) bench old f) (sym (stays k.0)) (saved text bench draft place old locked last same leads a k.1)
 
 -- the same of what a call comes to on the files with the draft
-pub comes : (Is : Files → Outcome → Type 0) (Writes : Text → Type 0) (placed : Bool) (bench draft place : Text) (old locked last new : Files)
+pub comes : (Is : Files → Outcome → Type 0) (Writes : Text → Type 0) (said placed : Bool) (bench draft place : Text) (old locked last new : Files)
     → draft ≡ draft_of old bench → old.place place ≡ old.place bench → IsAsBut draft old locked
     → (placed ≡ true → new ≡ last) → IsAsBut draft last new
-    → ComesTo (Is locked) (λ text. IsKeptBy text placed draft place locked last) Writes
-    → WithDraft bench old (λ files. ComesTo (Is files) (λ text. IsKept text bench old new) Writes)
-comes Is Writes placed bench draft place old locked last new same leads a stays ended e = record {
+    → ComesTo (Is locked) (IsSaid said (λ text. IsKeptBy text placed draft place locked last)) Writes
+    → WithDraft bench old (λ files. ComesTo (Is files) (IsSaid said (λ text. IsKept text bench old new)) Writes)
+comes Is Writes said placed bench draft place old locked last new same leads a stays ended e = record {
   locked = locked;
   draft = subst (λ d. IsAsBut d old locked) same a;
   work = record {
     outcome = e.outcome;
     is = e.is;
-    keeps = kept e.outcome.saved placed bench draft place old locked last new same leads a e.keeps stays ended;
+    keeps = (e.keeps.0, kept e.outcome.saved placed bench draft place old locked last new same leads a e.keeps.1 stays ended);
     writes = e.writes;
   };
 }

@@ -13,7 +13,7 @@ use Rattle.ssa_words.specs.declared.call.Call.{Call}
 use Rattle.ssa_words.specs.declared.call.Call.TheVariants.{Init, Apply, Update, Strip, Undo, Redo, Show, Owners, Log, Session}
 use Rattle.ssa_program.specs.Kept.{IsKept}
 use Rattle.ssa_program.specs.Outcome.{Outcome, IsAnswered, IsBenchAt, IsChanged, IsMade, IsSeen}
-use Rattle.ssa_program.specs.Stops.{Stops, IsUnchanged, IsUnloaded, IsUnmade, IsUnsaved}
+use Rattle.ssa_program.specs.Stops.{Stops, IsSaid, IsUnchanged, IsUnloaded, IsUnmade, IsUnsaved}
 use Rattle.ssa_program.specs.Telling.{IsCut}
 use Rattle.ssa_program.specs.declared.status.Status.{Status}
 use Rattle.ssa_program.specs.declared.status.Status.TheVariants.{Done}
@@ -75,7 +75,7 @@ module _ (old new : Files) {W : Type 0} (contents : W → Option Text) (has_fail
   abbrev pub ChangeStops : Text → (Files → Outcome → Type 0) → Trouble → Type 0
   ChangeStops bench Is t = Stops
       (IsLeft bench × Unsaid × WithDraft bench old (λ files. IsUnchanged (under files bench) (Is files) t))
-      (WithDraft bench old (λ files. ComesTo (Is files) (Keeps bench) Cuts))
+      (λ said. WithDraft bench old (λ files. ComesTo (Is files) (IsSaid said (Keeps bench)) Cuts))
       ⊥ t
 
   -- ---- a look
@@ -84,7 +84,10 @@ module _ (old new : Files) {W : Type 0} (contents : W → Option Text) (has_fail
   Looks Is s = EndsAs Is Spares Writes s
 
   abbrev pub LookStops : Text → (Outcome → Type 0) → Trouble → Type 0
-  LookStops bench Is t = Stops ((new ≡ old) × Unsaid × IsUnloaded (under old bench) t) (ComesTo Is Spares Cuts) ⊥ t
+  LookStops bench Is t = Stops
+      ((new ≡ old) × Unsaid × IsUnloaded (under old bench) t)
+      (λ said. ComesTo Is (IsSaid said Spares) Cuts)
+      ⊥ t
 
   -- ---- the making of a bench
 
@@ -94,7 +97,7 @@ module _ (old new : Files) {W : Type 0} (contents : W → Option Text) (has_fail
   abbrev pub MakeStops : Text → Text → Text → ℕ → Trouble → Type 0
   MakeStops schema object bench depth t = Stops
       (IsLeft bench × Unsaid × IsUnmade old schema object depth t)
-      (ComesTo (IsMade old schema object depth) (Keeps bench) Cuts)
+      (λ said. ComesTo (IsMade old schema object depth) (IsSaid said (Keeps bench)) Cuts)
       ⊥ t
 
   -- ---- a session, by what was left to be read before and after it
@@ -118,7 +121,7 @@ module _ (old new : Files) {W : Type 0} (contents : W → Option Text) (has_fail
     HoldStops bench t = Stops
         (IsLeft bench × WithDraft bench old (λ files. (IsUnloaded (under files bench) t × Unsaid)
         ⊎ IsHeld files bench (λ held after. RunsToEnd held after × IsUnsaved (Some (recorded_text depths after)) t)))
-        ⊥
+        (λ said. ⊥)
         (IsLeft bench × WithDraft bench old (λ files. IsHeld files bench Breaks)) t
 
     -- ---- a call

@@ -1,5 +1,5 @@
 -- Where a call stops that does not come to its outcome, and what it then leaves.
-use Rattle.std.specs.Prelude.{◌≡◌, ◌<◌, ℕ, ◌⊎◌, Option, Some, None, Ok, Err, length}
+use Rattle.std.specs.Prelude.{◌≡◌, ◌<◌, ℕ, ◌⊎◌, Bool, true, false, Option, Some, None, is_some, Ok, Err, length}
 use Rattle.ssa_model.specs.definitions.Json.{Text}
 use Rattle.ssa_model.specs.definitions.Files.{schema_of_file, bench_with_file}
 use Rattle.ssa_model.specs.definitions.History.{Bench}
@@ -13,13 +13,21 @@ use Rattle.ssa_program.specs.Outcome.{IsInput, IsLoadOf, IsMade, Outcome}
 use Rattle.ssa_program.specs.declared.trouble.Trouble.{Trouble}
 use Rattle.ssa_program.specs.declared.trouble.Trouble.TheVariants.{Load, File, BenchTooLong, SessionBroken, CannotPrint, SavedUnprinted}
 
--- A call stops before it has written or saved anything, at its reply, or within a session.
-module _ (Before AtReply InSession : Type 0) where
-  abbrev pub Stops : Trouble → Type 0
-  Stops CannotPrint = AtReply
-  Stops (SavedUnprinted name) = AtReply
-  Stops SessionBroken = InSession
-  Stops _ = Before
+-- A call stops before it has written or saved anything, at its reply, which is not printed, or within a session.
+module _ (Before Unprinted SavedAndUnprinted InSession : Type 0) where
+  abbrev pub StopsBy : Trouble → Type 0
+  StopsBy CannotPrint = Unprinted
+  StopsBy (SavedUnprinted name) = SavedAndUnprinted
+  StopsBy SessionBroken = InSession
+  StopsBy _ = Before
+
+-- at its reply by whether a person is told that the bench is saved
+abbrev pub Stops : Type 0 → (Bool → Type 0) → Type 0 → Trouble → Type 0
+Stops Before AtReply InSession = StopsBy Before (AtReply false) (AtReply true) InSession
+
+-- that is told where it is so, and what is kept
+abbrev pub IsSaid : Bool → (Option Text → Type 0) → Option Text → Type 0
+IsSaid said Keeps saved = (said ≡ is_some saved) × Keeps saved
 
 -- no file is told to be refused, and no bench to be too long
 abbrev pub IsNoFault : Trouble → Type 0

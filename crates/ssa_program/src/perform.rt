@@ -1,5 +1,5 @@
 //! Carries out what the words of the program ask for.
-ghost use Rattle.std.specs.Prelude.{◌≡◌, ◌++◌, ◌∷◌, ◌<◌, ◌⊎◌, [], None, Some, Ok, Err, true, codes, if◌then◌else◌, IfErr, IfOk, OnErr, OnOk, string_bytes};
+ghost use Rattle.std.specs.Prelude.{◌≡◌, ◌++◌, ◌∷◌, ◌<◌, ◌⊎◌, [], None, Some, Ok, Err, false, true, codes, is_some, if◌then◌else◌, IfErr, IfOk, OnErr, OnOk, string_bytes};
 ghost use Rattle.std.specs.Io.KnownBytes.{Appends};
 ghost use Rattle.ssa_model.specs.definitions.BenchText.{depths};
 ghost use Rattle.ssa_model.specs.definitions.Files.{bench_with_file, schema_of_file};
@@ -21,7 +21,7 @@ ghost use Rattle.ssa_program.specs.Kept.{IsKeptBy, IsPut};
 ghost use Rattle.ssa_program.specs.Outcome.{IsAnswered, IsAskedBy, IsChange, IsChanged, IsSeen, part_of, saved_for};
 ghost use Rattle.ssa_program.specs.Performed.{IsPerformed};
 ghost use Rattle.ssa_program.specs.Status.{status_for};
-ghost use Rattle.ssa_program.specs.Stops.{IsNoFault, IsUnchanged, IsUnloaded, IsUnsaved, Stops};
+ghost use Rattle.ssa_program.specs.Stops.{IsNoFault, IsSaid, IsUnchanged, IsUnloaded, IsUnsaved, Stops};
 ghost use Rattle.ssa_program.specs.Telling.{IsCut};
 ghost use Rattle.ssa_program.specs.Trouble.{IsSaveTrouble};
 ghost use Rattle.ssa_program.specs.declared.trouble.Trouble.TheVariants.{File};
@@ -211,8 +211,8 @@ fn save_new<'a, D: Disk, W: Sink>(
         × IsPut (recorded_text depths bench.now) (string_bytes place.name ++ codes ".new") (string_bytes place.name) (D.view disk.old) (D.view disk.new))) }
     ensures stopped { IfErr result (λ t. D.tells ≡ true → Stops
         (IsAsBut (string_bytes place.name ++ codes ".new") (D.view disk.old) (D.view disk.new) × ((writer.new ≡ writer.old) × IsUnsaved (Some (recorded_text depths bench.now)) t))
-        (IsCut W.contents W.has_failed writer.old writer.new (init_text bench.now ++ line_feed ∷ [])
-        × IsPut (recorded_text depths bench.now) (string_bytes place.name ++ codes ".new") (string_bytes place.name) (D.view disk.old) (D.view disk.new))
+        (λ said. (said ≡ true) × (IsCut W.contents W.has_failed writer.old writer.new (init_text bench.now ++ line_feed ∷ [])
+        × IsPut (recorded_text depths bench.now) (string_bytes place.name ++ codes ".new") (string_bytes place.name) (D.view disk.old) (D.view disk.new)))
         ⊥ t) }
 {
     let reply = init_text(alloc, bench)?;
@@ -309,8 +309,8 @@ fn change_locked<'a, D: Disk, W: Sink>(
         (Appends (W.contents writer.old) (W.contents writer.new)) s) }
     ensures stopped { IfErr result (λ t. D.tells ≡ true → D.Made.contents draft.old.made ≡ Some [] → Stops
         (IsAsBut (string_bytes draft.old.name) (D.view disk.old) (D.view disk.new) × ((writer.new ≡ writer.old) × IsUnchanged (under (D.view disk.old) name.now) (IsChanged (D.view disk.old) name.now file.now call.now) t))
-        (ComesTo (IsChanged (D.view disk.old) name.now file.now call.now)
-        (λ saved. IsKeptBy saved draft.new.is_placed (string_bytes draft.old.name) (string_bytes draft.old.place.name) (D.view disk.old) (D.view disk.new))
+        (λ said. ComesTo (IsChanged (D.view disk.old) name.now file.now call.now) (IsSaid said
+        (λ saved. IsKeptBy saved draft.new.is_placed (string_bytes draft.old.name) (string_bytes draft.old.place.name) (D.view disk.old) (D.view disk.new)))
         (IsCut W.contents W.has_failed writer.old writer.new))
         ⊥ t) }
 {
@@ -358,8 +358,8 @@ fn move_locked<'a, D: Disk, W: Sink>(
         (Appends (W.contents writer.old) (W.contents writer.new)) s) }
     ensures stopped { IfErr result (λ t. D.tells ≡ true → D.Made.contents draft.old.made ≡ Some [] → Stops
         (IsAsBut (string_bytes draft.old.name) (D.view disk.old) (D.view disk.new) × ((writer.new ≡ writer.old) × IsUnchanged (under (D.view disk.old) name.now) (IsAnswered (D.view disk.old) name.now (asked_view asked.entry)) t))
-        (ComesTo (IsAnswered (D.view disk.old) name.now (asked_view asked.entry))
-        (λ saved. IsKeptBy saved draft.new.is_placed (string_bytes draft.old.name) (string_bytes draft.old.place.name) (D.view disk.old) (D.view disk.new))
+        (λ said. ComesTo (IsAnswered (D.view disk.old) name.now (asked_view asked.entry)) (IsSaid said
+        (λ saved. IsKeptBy saved draft.new.is_placed (string_bytes draft.old.name) (string_bytes draft.old.place.name) (D.view disk.old) (D.view disk.new)))
         (IsCut W.contents W.has_failed writer.old writer.new))
         ⊥ t) }
 {
@@ -395,7 +395,8 @@ fn write_answer<'a, W: Sink>(
 ) -> Result<Status, Trouble<'a>>
     ensures reply { OnOk result (Appends (W.contents writer.old) (W.contents writer.new) (reply.text.items ++ line_feed ∷ [])) }
     ensures ended { IfOk result (λ s. s ≡ status_for reply.is_accepted) }
-    ensures cut { IfErr result (Stops ⊥ (IsCut W.contents W.has_failed writer.old writer.new (reply.text.items ++ line_feed ∷ [])) ⊥) }
+    ensures cut { IfErr result (Stops ⊥
+        (λ said. (said ≡ is_some saved.entry) × IsCut W.contents W.has_failed writer.old writer.new (reply.text.items ++ line_feed ∷ [])) ⊥) }
 {
     let Reply {
         text,
@@ -426,7 +427,8 @@ fn answer_look<'a, W: Sink>(
     ensures reply { OnOk result (Appends (W.contents writer.old) (W.contents writer.new)
         ((asked_answer readings bench.old (asked_view asked.entry)).0 ++ line_feed ∷ [])) }
     ensures ended { IfOk result (λ s. s ≡ status_for (is_asked_accepted bench.old (asked_view asked.entry))) }
-    ensures stopped { IfErr result (λ t. Stops ((writer.new ≡ writer.old) × IsNoFault t) (IsCut W.contents W.has_failed writer.old writer.new
+    ensures stopped { IfErr result (λ t. Stops ((writer.new ≡ writer.old) × IsNoFault t)
+        (λ said. (said ≡ false) × IsCut W.contents W.has_failed writer.old writer.new
         ((asked_answer readings bench.old (asked_view asked.entry)).0 ++ line_feed ∷ [])) ⊥ t) }
 {
     let reply = answer(alloc, bench, asked)?;
@@ -461,9 +463,9 @@ fn answer_and_save<'a, D: Disk, W: Sink>(
     ensures stopped { IfErr result (λ t. D.tells ≡ true → D.Made.contents draft.old.made ≡ Some [] → Stops
         (IsAsBut (string_bytes draft.old.name) (D.view disk.old) (D.view disk.new)
         × ((writer.new ≡ writer.old) × IsUnsaved (saved_for bench.old (asked_view asked.entry)) t))
-        (IsCut W.contents W.has_failed writer.old writer.new ((asked_answer readings bench.old (asked_view asked.entry)).0 ++ line_feed ∷ [])
-        × IsKeptBy (saved_for bench.old (asked_view asked.entry)) draft.new.is_placed
-        (string_bytes draft.old.name) (string_bytes draft.old.place.name) (D.view disk.old) (D.view disk.new))
+        (λ said. IsCut W.contents W.has_failed writer.old writer.new ((asked_answer readings bench.old (asked_view asked.entry)).0 ++ line_feed ∷ [])
+        × IsSaid said (λ saved. IsKeptBy saved draft.new.is_placed
+        (string_bytes draft.old.name) (string_bytes draft.old.place.name) (D.view disk.old) (D.view disk.new)) (saved_for bench.old (asked_view asked.entry)))
         ⊥ t) }
 {
     let reply = answer(alloc, bench, asked)?;
@@ -487,6 +489,7 @@ fn save_change<'a, D: Disk>(
     ensures kept { OnOk result (D.tells ≡ true → D.Made.contents draft.old.made ≡ Some []
         → IsKeptBy (if is_change then Some (recorded_text depths bench.now) else None) draft.new.is_placed
         (string_bytes draft.old.name) (string_bytes draft.old.place.name) (D.view disk.old) (D.view disk.new)) }
+    ensures told { IfOk result (λ saved. is_some saved ≡ is_change) }
     ensures err { OnErr result (IsAsBut (string_bytes draft.old.name) (D.view disk.old) (D.view disk.new)) }
     ensures trouble { IfErr result (λ t. (is_change ≡ true) × IsSaveTrouble name.now (recorded_text depths bench.now) t) }
 {
@@ -541,7 +544,7 @@ fn hold_locked<'a, D: Disk, R: Source, W: Sink>(
         ⊎ IsHeld (D.view disk.old) name.now (λ held after.
         RunsAll (R.remaining reader.old) (R.remaining reader.new) (W.contents writer.old) (W.contents writer.new) held after
         × IsUnsaved (Some (recorded_text depths after)) t)))
-        ⊥
+        (λ said. ⊥)
         (IsAsBut (string_bytes draft.old.name) (D.view disk.old) (D.view disk.new)
         × IsHeld (D.view disk.old) name.now (λ held after.
         RunsWhole (R.remaining reader.old) (R.remaining reader.new) (W.contents writer.old) (W.contents writer.new) held after
@@ -573,7 +576,7 @@ fn hold_and_save<'a, D: Disk, R: Source, W: Sink>(
     ensures stopped { IfErr result (λ t. Stops
         (RunsAll (R.remaining reader.old) (R.remaining reader.new) (W.contents writer.old) (W.contents writer.new) bench.old bench.new
         × IsUnsaved (Some (recorded_text depths bench.new)) t)
-        ⊥
+        (λ said. ⊥)
         (RunsWhole (R.remaining reader.old) (R.remaining reader.new) (W.contents writer.old) (W.contents writer.new) bench.old bench.new
         ⊎ RunsPartly (R.remaining reader.old) (R.remaining reader.new) (W.contents writer.old) (W.contents writer.new) bench.old bench.new)
         t) }

@@ -1,3 +1,4 @@
+use Rattle.std.specs.Prelude.{is_some}
 use Rattle.std.proofs.Common.{◌≡◌, ◌++◌, ◌∷◌, [], ℕ, List, Bool, Some, true, string_bytes, subst}
 use Rattle.std.specs.Io.KnownBytes.{Appends}
 use Rattle.std.specs.Result.{IfErr, IfOk, OnOk}
@@ -10,7 +11,7 @@ use Rattle.ssa_program.specs.Status.{status_for}
 use Rattle.ssa_program.specs.Stops.{IsUnsaved, Stops}
 use Rattle.ssa_program.specs.Telling.{IsCut}
 use Rattle.ssa_program.specs.declared.trouble.Trouble.{Trouble}
-use Rattle.ssa_program.proofs.Calls.{cut_stops_kept, on_ok, saved_change}
+use Rattle.ssa_program.proofs.Calls.{cut_stops, on_ok, said_change, saved_change}
 use Rattle.ssa_program.proofs.perform.answer_and_save.Goals as goal
 
 pub returns-clause-reply : goal.returns-clause-reply
@@ -38,14 +39,16 @@ returns-clause-stopped g c =
     let old = g.D.Disk.view c.args.disk.now in
     let new = g.D.Disk.view c.save_change.new.disk in
     let asked = asked_view c.args.asked in
-    let keeps = IsKeptBy (saved_for c.args.bench.now asked) c.save_change.new.draft.is_placed draft place old new in
-    let before : Trouble → Type 0 = λ t. IsAsBut draft old new
-    × ((c.write_answer.new.writer ≡ c.args.writer.now) × IsUnsaved (saved_for c.args.bench.now asked) t) in
+    let saved = saved_for c.args.bench.now asked in
+    let keeps = IsKeptBy saved c.save_change.new.draft.is_placed draft place old new in
+    let before : Trouble → Type 0 = λ t. IsAsBut draft old new × ((c.write_answer.new.writer ≡ c.args.writer.now) × IsUnsaved saved t) in
     let stopped : List ℕ → _ = λ t. IfErr c.write_answer.result (λ f. tells → blank → Stops (before f)
-    (IsCut g.W.Sink.contents g.W.Sink.has_failed c.args.writer.now c.write_answer.new.writer (t ++ line_feed ∷ []) × keeps) ⊥ f) in
+    (λ said. IsCut g.W.Sink.contents g.W.Sink.has_failed c.args.writer.now c.write_answer.new.writer (t ++ line_feed ∷ []) × ((said ≡ is_some saved) × keeps))
+    ⊥ f) in
     subst stopped c.in_ok-reply.ensures.reply
-    (cut_stops_kept g.W.Sink.contents g.W.Sink.has_failed c.args.writer.now c.write_answer.new.writer before keeps tells blank
-    (c.in_ok-reply.reply.text.items ++ line_feed ∷ []) c.write_answer.result
+    (cut_stops g.W.Sink.contents g.W.Sink.has_failed c.args.writer.now c.write_answer.new.writer before (is_some c.in_ok-saved.saved) (is_some saved)
+    keeps tells blank (c.in_ok-reply.reply.text.items ++ line_feed ∷ []) c.write_answer.result
+    (said_change c.args.bench.now asked c.in_ok-reply.reply.is_change (is_some c.in_ok-saved.saved) c.in_ok-reply.ensures.change c.in_ok-saved.ensures.told)
     (saved_change tells blank c.args.bench.now c.answer.new.bench asked c.in_ok-reply.reply.is_change c.save_change.new.draft.is_placed draft place old new
     c.in_ok-reply.ensures.change c.in_ok-reply.ensures.after c.in_ok-saved.ensures.kept)
     c.write_answer.ensures.cut)

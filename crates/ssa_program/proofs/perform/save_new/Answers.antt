@@ -33,13 +33,17 @@ returns-in-Err-clause-stopped g c = λ told.
     let draft = c.in_ok-draft.draft in
     let put : IsPut (recorded_text depths c.args.bench.now) (string_bytes draft.name) (string_bytes draft.place.name)
     (g.D.Disk.view c.take_draft.new.disk) (g.D.Disk.view c.put_draft-saved.new.disk) = c.in_ok-saved.ensures.saved told (c.in_ok-draft.ensures.empty told) in
-    let stays = c.end.ensures.placed c.in_ok-saved.ensures.placed in (
-      subst (λ (t : List ℕ). IsCut g.W.Sink.contents g.W.Sink.has_failed c.args.writer.now c.write_reply.new.writer (t ++ line_feed ∷ []))
-          c.in_ok-reply.ensures (record { failed = c.in-Err.ensures.failed; part = c.in-Err.ensures.err }),
-      put_after (recorded_text depths c.args.bench.now) (string_bytes draft.name) (string_bytes c.args.place.name ++ codes ".new")
-          (string_bytes draft.place.name) (string_bytes c.args.place.name)
-          (g.D.Disk.view c.args.disk.now) (g.D.Disk.view c.take_draft.new.disk) (g.D.Disk.view c.end.new.disk)
-          c.in_ok-draft.ensures.own (λ i. string_bytes (c.in_ok-draft.ensures.place i).name) c.in_ok-draft.ensures.others
-          (subst (λ (f : Files). IsPut (recorded_text depths c.args.bench.now) (string_bytes draft.name) (string_bytes draft.place.name)
-          (g.D.Disk.view c.take_draft.new.disk) f) (sym stays) put),
+    let stays = c.end.ensures.placed c.in_ok-saved.ensures.placed
+    in (
+      refl,
+      (
+        subst (λ (t : List ℕ). IsCut g.W.Sink.contents g.W.Sink.has_failed c.args.writer.now c.write_reply.new.writer (t ++ line_feed ∷ []))
+            c.in_ok-reply.ensures (record { failed = c.in-Err.ensures.failed; part = c.in-Err.ensures.err }),
+        put_after (recorded_text depths c.args.bench.now) (string_bytes draft.name) (string_bytes c.args.place.name ++ codes ".new")
+            (string_bytes draft.place.name) (string_bytes c.args.place.name)
+            (g.D.Disk.view c.args.disk.now) (g.D.Disk.view c.take_draft.new.disk) (g.D.Disk.view c.end.new.disk)
+            c.in_ok-draft.ensures.own (λ i. string_bytes (c.in_ok-draft.ensures.place i).name) c.in_ok-draft.ensures.others
+            (subst (λ (f : Files). IsPut (recorded_text depths c.args.bench.now) (string_bytes draft.name) (string_bytes draft.place.name)
+            (g.D.Disk.view c.take_draft.new.disk) f) (sym stays) put),
+      ),
     )
