@@ -1,6 +1,6 @@
 -- What a call has done at its end, by its words: its outcome, or where it stopped.
-use Rattle.std.specs.Prelude.{◌≡◌, ◌++◌, ◌∷◌, [], ◌⊎◌, ℕ, Bool, Option, Some, None}
-use Rattle.std.specs.Io.KnownBytes.{Appends}
+use Rattle.std.specs.Prelude.{◌≡◌, ◌++◌, ◌∷◌, [], ◌⊎◌, ℕ, Bool, Option, Some, None, true, OnSome}
+use Rattle.std.specs.Io.KnownBytes.{Appends, IsAtEnd}
 use Rattle.ssa_model.specs.definitions.BenchText.{depths}
 use Rattle.ssa_model.specs.definitions.History.{Bench}
 use Rattle.ssa_model.specs.definitions.Json.{Text}
@@ -36,6 +36,17 @@ pub record WithDraft (bench : Text) (old : Files) (Work : Files → Type 0) : Ty
   pub locked : Files
   pub draft : IsAsBut (draft_of old bench) old locked
   pub work : Work locked
+
+-- all input of a session is answered, by what was left to be read and what stood where the replies do, before and after it
+abbrev pub RunsToEnd : Option Text → Option Text → Option Text → Option Text → Bench → Bench → Type 0
+RunsToEnd left left_after written written_after held after =
+    RunsAll left left_after written written_after held after × OnSome left (IsAtEnd left_after)
+
+-- it broke off, since a device has failed
+abbrev pub BreaksOff : Type 0 → Type 0 → Option Text → Option Text → Option Text → Option Text → Bench → Bench → Type 0
+BreaksOff ReaderFailed WriterFailed left left_after written written_after held after =
+    (RunsWhole left left_after written written_after held after × ReaderFailed)
+    ⊎ (RunsPartly left left_after written written_after held after × WriterFailed)
 
 -- a session is held on the bench that is there
 pub record IsHeld (files : Files) (bench : Text) (Runs : Bench → Bench → Type 0) : Type 0 where
@@ -100,27 +111,24 @@ module _ (old new : Files) {W : Type 0} (contents : W → Option Text) (has_fail
       (λ said. ComesTo (IsMade old schema object depth) (IsSaid said (Keeps bench)) Cuts)
       ⊥ t
 
-  -- ---- a session, by what was left to be read before and after it
-  module _ (left left_after : Option Text) where
-    -- all input is answered
-    abbrev pub RunsToEnd : Bench → Bench → Type 0
-    RunsToEnd = RunsAll left left_after (contents writer) (contents writer_new)
+  -- ---- a session, by what was left to be read before and after it, and whether that device has failed
+  module _ (left left_after : Option Text) (ReaderFailed : Type 0) where
+    abbrev pub Ends : Bench → Bench → Type 0
+    Ends = RunsToEnd left left_after (contents writer) (contents writer_new)
 
-    -- it broke off
     abbrev pub Breaks : Bench → Bench → Type 0
-    Breaks held after = RunsWhole left left_after (contents writer) (contents writer_new) held after
-        ⊎ RunsPartly left left_after (contents writer) (contents writer_new) held after
+    Breaks = BreaksOff ReaderFailed (has_failed writer_new ≡ true) left left_after (contents writer) (contents writer_new)
 
     abbrev pub Holds : Text → Status → Type 0
     Holds bench s =
         (s ≡ Done)
-        × WithDraft bench old (λ files. IsHeld files bench (λ held after. RunsToEnd held after × Keeps bench (Some (recorded_text depths after))))
+        × WithDraft bench old (λ files. IsHeld files bench (λ held after. Ends held after × Keeps bench (Some (recorded_text depths after))))
 
     -- it is not saved: before it began, after its end, or because it broke off
     abbrev pub HoldStops : Text → Trouble → Type 0
     HoldStops bench t = Stops
         (IsLeft bench × WithDraft bench old (λ files. (IsUnloaded (under files bench) t × Unsaid)
-        ⊎ IsHeld files bench (λ held after. RunsToEnd held after × IsUnsaved (Some (recorded_text depths after)) t)))
+        ⊎ IsHeld files bench (λ held after. Ends held after × IsUnsaved (Some (recorded_text depths after)) t)))
         (λ said. ⊥)
         (IsLeft bench × WithDraft bench old (λ files. IsHeld files bench Breaks)) t
 

@@ -12,11 +12,10 @@ ghost use Rattle.ssa_json.specs.Readings.{readings};
 ghost use Rattle.ssa_answers.specs.Asked.{asked_view};
 ghost use Rattle.ssa_disk.specs.Files.{IsAsBut, under};
 ghost use Rattle.ssa_path.specs.Subresources.{part_view};
-ghost use Rattle.ssa_session.specs.Effects.{RunsAll, RunsPartly, RunsWhole};
 ghost use Rattle.ssa_session.specs.Files.{IsGivenFile};
 ghost use Rattle.ssa_session.specs.declared.files.FileFault.{FileFault};
 ghost use Rattle.ssa_program.specs.Asked.{is_asked_accepted};
-ghost use Rattle.ssa_program.specs.Done.{ChangeStops, Changes, ComesTo, EndsAs, HoldStops, Holds, IsDone, IsHeld, IsStopped, LookStops, Looks, MakeStops, Makes};
+ghost use Rattle.ssa_program.specs.Done.{BreaksOff, ChangeStops, Changes, ComesTo, EndsAs, HoldStops, Holds, IsDone, IsHeld, IsStopped, LookStops, Looks, MakeStops, Makes, RunsToEnd};
 ghost use Rattle.ssa_program.specs.Kept.{IsKeptBy, IsPut};
 ghost use Rattle.ssa_program.specs.Outcome.{IsAnswered, IsAskedBy, IsChange, IsChanged, IsSeen, part_of, saved_for};
 ghost use Rattle.ssa_program.specs.Performed.{IsPerformed};
@@ -63,7 +62,7 @@ pub fn perform<D: Disk, R: Source, W: Sink, E: Sink>(
 ) -> u8
     ensures status { result < 4 }
     ensures performed { D.tells ≡ true → IsPerformed (D.view disk.old) (D.view disk.new) W.contents W.has_failed writer.old writer.new
-        E.contents E.has_failed errors.old errors.new (R.remaining reader.old) (R.remaining reader.new) call.now result }
+        E.contents E.has_failed errors.old errors.new (R.remaining reader.old) (R.remaining reader.new) (R.has_failed reader.new ≡ true) call.now result }
 {
     let mut notes = Notes::new(alloc);
     match carry_out(disk, alloc, call, reader, writer, &mut notes) {
@@ -88,9 +87,9 @@ fn carry_out<'a, D: Disk, R: Source, W: Sink>(
     notes: &mut Notes,
 ) -> Result<Status, Trouble<'a>>
     ensures done { IfOk result (λ s. D.tells ≡ true → IsDone (D.view disk.old) (D.view disk.new) W.contents W.has_failed writer.old writer.new
-        (R.remaining reader.old) (R.remaining reader.new) call.now s) }
+        (R.remaining reader.old) (R.remaining reader.new) (R.has_failed reader.new ≡ true) call.now s) }
     ensures stopped { IfErr result (λ t. D.tells ≡ true → IsStopped (D.view disk.old) (D.view disk.new) W.contents W.has_failed writer.old writer.new
-        (R.remaining reader.old) (R.remaining reader.new) call.now t) }
+        (R.remaining reader.old) (R.remaining reader.new) (R.has_failed reader.new ≡ true) call.now t) }
 {
     match *call {
         Call::Init {
@@ -512,9 +511,9 @@ fn hold_session<'a, D: Disk, R: Source, W: Sink>(
     name: &'a str,
 ) -> Result<Status, Trouble<'a>>
     ensures done { IfOk result (λ s. D.tells ≡ true → Holds (D.view disk.old) (D.view disk.new) W.contents W.has_failed writer.old writer.new
-        (R.remaining reader.old) (R.remaining reader.new) name.now s) }
+        (R.remaining reader.old) (R.remaining reader.new) (R.has_failed reader.new ≡ true) name.now s) }
     ensures stopped { IfErr result (λ t. D.tells ≡ true → HoldStops (D.view disk.old) (D.view disk.new) W.contents W.has_failed writer.old writer.new
-        (R.remaining reader.old) (R.remaining reader.new) name.now t) }
+        (R.remaining reader.old) (R.remaining reader.new) (R.has_failed reader.new ≡ true) name.now t) }
 {
     let mut draft = lock_bench(disk, alloc, name)?;
     let ended = hold_locked(disk, alloc, reader, writer, notes, &mut draft, name);
@@ -535,20 +534,19 @@ fn hold_locked<'a, D: Disk, R: Source, W: Sink>(
     ensures own { draft.new.name ≡ draft.old.name }
     ensures done { IfOk result (λ s. D.tells ≡ true → D.Made.contents draft.old.made ≡ Some [] → (s ≡ Status.Done)
         × IsHeld (D.view disk.old) name.now (λ held after.
-        RunsAll (R.remaining reader.old) (R.remaining reader.new) (W.contents writer.old) (W.contents writer.new) held after
+        RunsToEnd (R.remaining reader.old) (R.remaining reader.new) (W.contents writer.old) (W.contents writer.new) held after
         × IsKeptBy (Some (recorded_text depths after)) draft.new.is_placed
         (string_bytes draft.old.name) (string_bytes draft.old.place.name) (D.view disk.old) (D.view disk.new))) }
     ensures stopped { IfErr result (λ t. D.tells ≡ true → Stops
         (IsAsBut (string_bytes draft.old.name) (D.view disk.old) (D.view disk.new)
         × ((IsUnloaded (under (D.view disk.old) name.now) t × (writer.new ≡ writer.old))
         ⊎ IsHeld (D.view disk.old) name.now (λ held after.
-        RunsAll (R.remaining reader.old) (R.remaining reader.new) (W.contents writer.old) (W.contents writer.new) held after
+        RunsToEnd (R.remaining reader.old) (R.remaining reader.new) (W.contents writer.old) (W.contents writer.new) held after
         × IsUnsaved (Some (recorded_text depths after)) t)))
         (λ said. ⊥)
         (IsAsBut (string_bytes draft.old.name) (D.view disk.old) (D.view disk.new)
-        × IsHeld (D.view disk.old) name.now (λ held after.
-        RunsWhole (R.remaining reader.old) (R.remaining reader.new) (W.contents writer.old) (W.contents writer.new) held after
-        ⊎ RunsPartly (R.remaining reader.old) (R.remaining reader.new) (W.contents writer.old) (W.contents writer.new) held after))
+        × IsHeld (D.view disk.old) name.now (BreaksOff (R.has_failed reader.new ≡ true) (W.has_failed writer.new ≡ true)
+        (R.remaining reader.old) (R.remaining reader.new) (W.contents writer.old) (W.contents writer.new)))
         t) }
 {
     let mut bench = ManuallyDrop::new(load_bench(disk, alloc, notes, name)?);
@@ -567,18 +565,18 @@ fn hold_and_save<'a, D: Disk, R: Source, W: Sink>(
 ) -> Result<Status, Trouble<'a>>
     ensures own { draft.new.name ≡ draft.old.name }
     ensures ended { IfOk result (λ s. s ≡ Status.Done) }
-    ensures runs { OnOk result (RunsAll (R.remaining reader.old) (R.remaining reader.new) (W.contents writer.old) (W.contents writer.new) bench.old bench.new) }
+    ensures runs { OnOk result (RunsToEnd (R.remaining reader.old) (R.remaining reader.new) (W.contents writer.old) (W.contents writer.new) bench.old bench.new) }
     ensures kept { OnOk result (D.tells ≡ true → D.Made.contents draft.old.made ≡ Some []
         → IsKeptBy (Some (recorded_text depths bench.new)) draft.new.is_placed
         (string_bytes draft.old.name) (string_bytes draft.old.place.name) (D.view disk.old) (D.view disk.new)) }
 
     // A session that broke off, or was not saved, leaves the file.
     ensures stopped { IfErr result (λ t. Stops
-        (RunsAll (R.remaining reader.old) (R.remaining reader.new) (W.contents writer.old) (W.contents writer.new) bench.old bench.new
+        (RunsToEnd (R.remaining reader.old) (R.remaining reader.new) (W.contents writer.old) (W.contents writer.new) bench.old bench.new
         × IsUnsaved (Some (recorded_text depths bench.new)) t)
         (λ said. ⊥)
-        (RunsWhole (R.remaining reader.old) (R.remaining reader.new) (W.contents writer.old) (W.contents writer.new) bench.old bench.new
-        ⊎ RunsPartly (R.remaining reader.old) (R.remaining reader.new) (W.contents writer.old) (W.contents writer.new) bench.old bench.new)
+        (BreaksOff (R.has_failed reader.new ≡ true) (W.has_failed writer.new ≡ true)
+        (R.remaining reader.old) (R.remaining reader.new) (W.contents writer.old) (W.contents writer.new) bench.old bench.new)
         t) }
     ensures left { OnErr result (IsAsBut (string_bytes draft.old.name) (D.view disk.old) (D.view disk.new)) }
 {

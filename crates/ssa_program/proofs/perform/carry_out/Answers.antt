@@ -9,7 +9,7 @@ pub returns-in-Init-clause-done : goal.returns-in-Init-clause-done
 returns-in-Init-clause-done g c =
     subst (λ (k : Call). IfOk c.init.result (λ s. g.D.Disk.tells ≡ true → IsDone (g.D.Disk.view c.args.disk.now) (g.D.Disk.view c.init.new.disk)
     g.W.Sink.contents g.W.Sink.has_failed c.args.writer.now c.init.new.writer
-    (g.R.Source.remaining c.args.reader.now) (g.R.Source.remaining c.args.reader.now) k s))
+    (g.R.Source.remaining c.args.reader.now) (g.R.Source.remaining c.args.reader.now) (g.R.Source.has_failed c.args.reader.now ≡ true) k s))
     (sym c.in-Init.is) c.init.ensures.done
 
 pub returns-in-Apply-clause-stopped : goal.returns-in-Apply-clause-stopped
@@ -18,7 +18,7 @@ returns-in-Apply-clause-stopped g c =
     let new = g.D.Disk.view c.change_bench.new.disk in
     let left = g.R.Source.remaining c.args.reader.now in
     subst (λ (k : Call). IfErr c.change_bench.result (λ t. g.D.Disk.tells ≡ true → IsStopped old new
-    g.W.Sink.contents g.W.Sink.has_failed c.args.writer.now c.change_bench.new.writer left left k t))
+    g.W.Sink.contents g.W.Sink.has_failed c.args.writer.now c.change_bench.new.writer left left (g.R.Source.has_failed c.args.reader.now ≡ true) k t))
     (sym c.in-Apply.is)
     (subst (λ (k : Call). IfErr c.change_bench.result (λ t. g.D.Disk.tells ≡ true → ChangeStops old new
     g.W.Sink.contents g.W.Sink.has_failed c.args.writer.now c.change_bench.new.writer
@@ -31,7 +31,7 @@ returns-in-Update-clause-stopped g c =
     let new = g.D.Disk.view c.change_bench-in-Update.new.disk in
     let left = g.R.Source.remaining c.args.reader.now in
     subst (λ (k : Call). IfErr c.change_bench-in-Update.result (λ t. g.D.Disk.tells ≡ true → IsStopped old new
-    g.W.Sink.contents g.W.Sink.has_failed c.args.writer.now c.change_bench-in-Update.new.writer left left k t))
+    g.W.Sink.contents g.W.Sink.has_failed c.args.writer.now c.change_bench-in-Update.new.writer left left (g.R.Source.has_failed c.args.reader.now ≡ true) k t))
     (sym c.in-Update.is)
     (subst (λ (k : Call). IfErr c.change_bench-in-Update.result (λ t. g.D.Disk.tells ≡ true → ChangeStops old new
     g.W.Sink.contents g.W.Sink.has_failed c.args.writer.now c.change_bench-in-Update.new.writer

@@ -1,8 +1,7 @@
-use Rattle.std.specs.Prelude.{◌⊎◌}
 use Rattle.std.proofs.Common.{◌≡◌, [], Some, true, string_bytes, subst}
 use Rattle.ssa_model.specs.definitions.Json.{Text}
 use Rattle.ssa_disk.specs.Files.{IsAsBut}
-use Rattle.ssa_session.specs.Effects.{RunsAll, RunsPartly, RunsWhole}
+use Rattle.ssa_program.specs.Done.{BreaksOff, RunsToEnd}
 use Rattle.ssa_program.proofs.Calls.{session_done, session_stopped}
 use Rattle.ssa_program.proofs.perform.hold_session.Goals as goal
 
@@ -15,8 +14,8 @@ returns-clause-done g c =
     let written_after = g.W.Sink.contents c.hold_locked-ended.new.writer in
     let last = g.D.Disk.view c.hold_locked-ended.new.disk in
     let new = g.D.Disk.view c.end.new.disk in
-    session_done (g.D.Disk.tells ≡ true) (RunsAll left left_after written written_after)
-    (λ held after. RunsWhole left left_after written written_after held after ⊎ RunsPartly left left_after written written_after held after)
+    session_done (g.D.Disk.tells ≡ true) (RunsToEnd left left_after written written_after)
+    (BreaksOff (g.R.Source.has_failed c.hold_locked-ended.new.reader ≡ true) (g.W.Sink.has_failed c.hold_locked-ended.new.writer ≡ true) left left_after written written_after)
     (c.hold_locked-ended.new.writer ≡ c.args.writer.now)
     c.args.name.now (string_bytes draft.name) (string_bytes draft.place.name) c.hold_locked-ended.new.draft.is_placed
     (g.D.Disk.view c.args.disk.now) (g.D.Disk.view c.lock_bench.new.disk) last new
@@ -33,8 +32,8 @@ returns-clause-stopped g c =
     let written_after = g.W.Sink.contents c.hold_locked-ended.new.writer in
     let last = g.D.Disk.view c.hold_locked-ended.new.disk in
     let new = g.D.Disk.view c.end.new.disk in
-    session_stopped (g.D.Disk.tells ≡ true) (RunsAll left left_after written written_after)
-    (λ held after. RunsWhole left left_after written written_after held after ⊎ RunsPartly left left_after written written_after held after)
+    session_stopped (g.D.Disk.tells ≡ true) (RunsToEnd left left_after written written_after)
+    (BreaksOff (g.R.Source.has_failed c.hold_locked-ended.new.reader ≡ true) (g.W.Sink.has_failed c.hold_locked-ended.new.writer ≡ true) left left_after written written_after)
     (c.hold_locked-ended.new.writer ≡ c.args.writer.now)
     c.args.name.now (string_bytes draft.name) (string_bytes draft.place.name) c.hold_locked-ended.new.draft.is_placed
     (g.D.Disk.view c.args.disk.now) (g.D.Disk.view c.lock_bench.new.disk) last new
