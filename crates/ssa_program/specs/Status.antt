@@ -11,9 +11,8 @@ status_code Refused = 1
 status_code Usage = 2
 status_code Broken = 3
 
--- want of memory before a session began ends the program as a broken session does
+-- want of memory while a refused file is told ends the program as a break does
 abbrev pub status_of : Ending → Status
-status_of ending.Done = Done
 status_of ending.Refused = Refused
 status_of ending.OutOfMemory = Broken
 

@@ -36,7 +36,6 @@ impl From<Ending> for Status {
 
     fn from(ending: Ending) -> Status {
         match ending {
-            Ending::Done => Status::Done,
             Ending::Refused => Status::Refused,
             Ending::OutOfMemory => Status::Broken,
         }

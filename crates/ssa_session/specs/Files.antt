@@ -1,13 +1,18 @@
--- Which fault of a file is told, and results that a file's fault may refuse.
-use Rattle.std.specs.Prelude.{◌≡◌, Result, Ok, Err}
+-- Which fault of a file is told, results that a file's fault may refuse, and what telling a fault writes.
+use Rattle.std.specs.Prelude.{◌≡◌, ℕ, List, [], ◌∷◌, ◌++◌, ◌⊎◌, Option, Result, Ok, Err}
+use Rattle.std.specs.Io.KnownBytes.{Appends}
 use Rattle.ssa_model.specs.definitions.Json as json_model
 use Rattle.ssa_model.specs.definitions.Json.{Text}
 use Rattle.ssa_model.specs.definitions.Readings.{not_json, null_value, number_outside}
 use Rattle.ssa_model.specs.definitions.Schema.{schema_keyword, schema_shape, schema_keys, schema_depth}
 use Rattle.ssa_model.specs.definitions.Answers as answers
 use Rattle.ssa_model.specs.definitions.Files as model
+use Rattle.ssa_model.specs.definitions.Lines.{line_feed}
+use Rattle.ssa_model.specs.definitions.Session.{out_of_memory_text}
 use Rattle.ssa_model.specs.definitions.Files.{too_long, unread, of_schema, of_object, file_fault_text}
+use Rattle.ssa_json.specs.Devices.{AppendsPart}
 use Rattle.ssa_json.specs.View.{view}
+use Rattle.ssa_json.specs.declared.source.DeviceFault.{DeviceFault}
 use Rattle.ssa_json.specs.declared.value.Json as values
 use Rattle.ssa_json.specs.declared.fault.JsonFault.{JsonFault}
 use Rattle.ssa_json.specs.declared.fault.JsonFault.TheVariants as json
@@ -16,6 +21,8 @@ use Rattle.ssa_schema.specs.declared.fault.SchemaFault.TheVariants as schema
 use Rattle.ssa_answers.specs.Faults.{IsFault}
 use Rattle.ssa_answers.specs.declared.fault.Fault as engine
 use Rattle.ssa_answers.specs.declared.fault.Fault.TheVariants as bench
+use Rattle.ssa_session.specs.declared.files.Ending.{Ending}
+use Rattle.ssa_session.specs.declared.files.Ending.TheVariants as ending
 use Rattle.ssa_session.specs.declared.files.FileFault.{FileFault}
 use Rattle.ssa_session.specs.declared.files.FileFault.TheVariants.{Json, Schema, Object, OutOfMemory}
 
@@ -65,3 +72,13 @@ IsTold (Schema schema.OutOfMemory) line = ⊥
 IsTold (Object bench.OutOfMemory) line = ⊥
 IsTold OutOfMemory line = ⊥
 IsTold f line = (g : model.FileFault) → IsFileFault f g → line ≡ file_fault_text g
+
+-- so much is written of the line that tells of want of memory
+abbrev pub TellsWant : (List ℕ → Type 0) → Type 0
+TellsWant Writes = Writes (out_of_memory_text ++ line_feed ∷ [])
+
+-- What telling a fault writes: its line, where it refuses, or the line of want of memory; where the device fails, a beginning of one of them.
+abbrev pub IsTelling : FileFault → Option (List ℕ) → Option (List ℕ) → Result Ending DeviceFault → Type 0
+IsTelling f old new (Ok ending.Refused) = (line : List ℕ) × IsTold f line × Appends old new (line ++ line_feed ∷ [])
+IsTelling f old new (Ok ending.OutOfMemory) = TellsWant (Appends old new)
+IsTelling f old new (Err fault) = ((line : List ℕ) × IsTold f line × AppendsPart old new (line ++ line_feed ∷ [])) ⊎ TellsWant (AppendsPart old new)

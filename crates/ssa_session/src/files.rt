@@ -1,15 +1,10 @@
-//! A bench from a schema file and an object file, and a session on it.
-ghost use Rattle.std.specs.Prelude.{◌≡◌, ◌<◌, ◌++◌, ◌∷◌, [], ◌⊎◌, Ok, Err, IfOk, OnErr, OnOk, OnSome, true};
-ghost use Rattle.std.specs.Io.KnownBytes.{Appends, IsAtEnd};
+//! A bench from a schema file and an object file, and the lines of their faults.
+ghost use Rattle.std.specs.Prelude.{◌≡◌, IfOk, OnErr, OnOk, true};
 ghost use Rattle.ssa_model.specs.definitions.Files.{bench_of_file, bench_with_file, schema_of_file, value_of_file};
-ghost use Rattle.ssa_json.specs.Devices.{AppendsPart};
 ghost use Rattle.ssa_json.specs.Readings.{readings};
 ghost use Rattle.ssa_json.specs.View.{view};
-ghost use Rattle.ssa_session.specs.Files.{IsGivenFile, IsGivenValue, IsTold, json_fault, schema_fault, object_fault};
-ghost use Rattle.ssa_session.specs.FileSessions.{IsHeld, IsTelling};
+ghost use Rattle.ssa_session.specs.Files.{IsGivenFile, IsGivenValue, IsTelling, IsTold, json_fault, schema_fault, object_fault};
 
-use crate::bench_session::session;
-use crate::engine::SessionFault;
 use ssa_answers::asked::MOST_INPUT_BYTES;
 use ssa_answers::fault::Fault;
 use ssa_answers::fault_text::fault_text;
@@ -17,7 +12,7 @@ use ssa_bench::bench::Bench;
 use ssa_json::fault::JsonFault;
 use ssa_json::fault_code::FaultCode;
 use ssa_json::sink::Sink;
-use ssa_json::source::{DeviceFault, Source};
+use ssa_json::source::DeviceFault;
 use ssa_json::value::Json;
 use ssa_lines::fault_line::{code_text, write_fault};
 use ssa_lines::write_line::write_reply;
@@ -77,14 +72,12 @@ impl From<Fault> for FileFault {
     }
 }
 
-/// How a run on the files ended, where no device failed.
+/// How a run ends by a refused file, where no device failed.
 #[derive(Clone, Copy, Debug, PartialEq, Eq)]
 pub enum Ending {
-    /// The session came to the end of its input, whatever it refused.
-    Done,
-    /// A file was refused, and its fault line is written.
+    /// The line of the fault is written.
     Refused,
-    /// A growth was refused before the session began, and the line that says so is written.
+    /// A growth was refused, and the line that says so is written.
     OutOfMemory,
 }
 
@@ -172,44 +165,5 @@ pub fn tell<W: Sink>(
             write_fault(writer, FaultCode::OutOfMemory)?;
             Ok(Ending::OutOfMemory)
         }
-    }
-}
-
-/// Makes a bench of an object file and holds a session on it; or writes the line of the file's first
-/// fault.
-pub fn session_on<R: Source, W: Sink>(
-    alloc: Global,
-    schema: Schema,
-    object: &[u8],
-    reader: &mut R,
-    writer: &mut W,
-) -> Result<Ending, SessionFault>
-    ensures held { IsHeld (bench_of_file readings schema object.now) (R.remaining reader.old) (R.remaining reader.new)
-        (W.contents writer.old) (W.contents writer.new) result }
-
-    // Where no device fails, all that was written is handed on.
-    ensures handed_on { OnOk result (W.is_handed_on writer.old ≡ true → W.is_handed_on writer.new ≡ true) }
-
-    // The session is done only at the end of its input, and a device's fault is told only where it failed.
-    ensures at_end { result ≡ Ok Ending.Done → OnSome (R.remaining reader.old) (IsAtEnd (R.remaining reader.new)) }
-    ensures met_end { result ≡ Ok Ending.Done → R.ends_met reader.old < R.ends_met reader.new }
-    ensures reader_failed { result ≡ Err SessionFault.Reader → R.has_failed reader.new ≡ true }
-    ensures writer_failed { result ≡ Err SessionFault.Writer → W.has_failed writer.new ≡ true }
-
-    // A file that is refused leaves the input unread.
-    ensures unread { (result ≡ Ok Ending.Refused) ⊎ (result ≡ Ok Ending.OutOfMemory) → reader.new ≡ reader.old }
-{
-    let mut bench = match bench_of(alloc, schema, object) {
-        Ok(bench) => bench,
-        Err(fault) => {
-            return match tell(alloc, writer, &fault) {
-                Ok(ending) => Ok(ending),
-                Err(_) => Err(SessionFault::Writer),
-            };
-        }
-    };
-    match session(alloc, reader, writer, &mut bench) {
-        Ok(()) => Ok(Ending::Done),
-        Err(fault) => Err(fault),
     }
 }

@@ -1,7 +1,6 @@
 //! Sessions: one command a line in, one reply a line out.
 //!
-//! [`session`] answers the lines of a source on a bench; [`session_on`] makes the bench of a schema and
-//! an object first.
+//! [`session`] answers the lines of a source on a bench; [`bench_of`] makes the bench of a schema and an object file.
 //!
 //! ```
 //! let mut reader = OfReader::new(b"{\"do\":\"undo\"}\n".as_slice());
@@ -29,5 +28,5 @@ pub mod reply_text;
 pub use bench_machine::answer_command;
 pub use bench_session::session;
 pub use engine::{LINE_LIMIT, SessionFault};
-pub use files::{Ending, FileFault, bench_of, bench_with, schema_of, session_on, tell};
+pub use files::{Ending, FileFault, bench_of, bench_with, schema_of, tell};
 pub use machine::Machine;
