@@ -1,5 +1,5 @@
 -- How many places are new, child by child.
-use Rattle.std.proofs.Common.{◌≡◌, ℕ, suc, ◌+◌, ◌-◌, ◌^◌, inl, inr, List, [], ◌∷◌, ◌++◌, length, drop, Bool, true, false, not, ◌||◌, cond, Option, Some, None, Less, Equal, Greater, min, refl, sym, ap, subst, subst₂, ◌∙◌, true≢false, arith}
+use Rattle.std.proofs.Common.{◌≡◌, ℕ, suc, ◌+◌, inl, inr, List, [], ◌∷◌, ◌++◌, length, drop, Bool, true, false, not, ◌||◌, cond, Option, Some, None, Less, Equal, Greater, refl, sym, ap, subst, subst₂, ◌∙◌, true≢false, arith}
 use Rattle.std.specs.List.{list_any}
 use Rattle.std.specs.Prelude.{is_some, slice_get}
 use Rattle.ssa_model.specs.definitions.Body.{Content}
@@ -10,7 +10,6 @@ use Rattle.ssa_model.proofs.PathMaps.{same_path-itself}
 use Rattle.ssa_model.proofs.ShownNames.{turned as same_either_way}
 use Rattle.ssa_model.proofs.Tables.{element-itself as same_element-itself}
 use Rattle.ssa_path.specs.Children.{child_at, elements, heads_order, is_below, rises}
-use Rattle.ssa_path.specs.declared.element.Elem.{Elem}
 use Rattle.ssa_path.specs.View.{element_view}
 use Rattle.ssa_path.proofs.Combining.{other-first, own-first, tied-heads}
 use Rattle.ssa_path.proofs.Orders.{both_first, both_second}
