@@ -179,55 +179,73 @@ fn compared(alloc: Global, before: &Body, after: &Body) -> Result<String, Fail> 
     told(alloc, &before.compare(alloc, after)?)
 }
 
-// A body and a part that is put over it, the paths that it adds and modifies, and whether it repeats what is there: with
-// fewer fields and entries and its items in another order, with another leaf, with new items, with a new entry, with another
-// atomic value, and with an item, between two that are the same, that has a field less or another leaf.
-const PARTS: [(&str, &str, &str); 8] = [
+// A body and a part that is put over it, the paths that it adds and modifies, how many places are new, and whether it repeats
+// what is there: with fewer fields and entries and its items in another order, with another leaf, with new items, with a new
+// entry, with another atomic value, with an item, between two that are the same, that has a field less or another leaf, and
+// with whole branches, of which each place is new, beside a record that both have.
+const PARTS: [(&str, &str, &str); 9] = [
     (
         r#"{"a":1,"d":{"x":1,"z":1},"l":[{"n":2,"t":1},{"n":1}],"r":{"x":1},"s":[3,2,1]}"#,
         r#"{"d":{"z":1},"l":[{"n":1},{"n":2}],"r":{},"s":[1,3]}"#,
-        " |  | true",
+        " |  | 0 | true",
     ),
     (
         r#"{"a":1,"l":[{"n":2,"t":1},{"n":1}]}"#,
         r#"{"l":[{"n":2,"t":3}]}"#,
-        r#" | f:l/k:{"n":2}/f:t | false"#,
+        r#" | f:l/k:{"n":2}/f:t | 0 | false"#,
     ),
     (
         r#"{"a":1,"l":[{"n":2},{"n":1}]}"#,
         r#"{"l":[{"n":3},{"n":2}]}"#,
-        r#"f:l/k:{"n":3} f:l/k:{"n":3}/f:n |  | false"#,
+        r#"f:l/k:{"n":3} f:l/k:{"n":3}/f:n |  | 2 | false"#,
     ),
     (
         r#"{"a":1,"s":[2,1]}"#,
         r#"{"s":[3,2]}"#,
-        "f:s/v:3 |  | false",
+        "f:s/v:3 |  | 1 | false",
     ),
     (
         r#"{"a":1,"d":{"x":1}}"#,
         r#"{"a":2,"d":{"z":1}}"#,
-        "f:d/f:z | f:a | false",
+        "f:d/f:z | f:a | 1 | false",
     ),
-    (r#"{"v":[1,2]}"#, r#"{"v":[2,1]}"#, " | f:v | false"),
+    (r#"{"v":[1,2]}"#, r#"{"v":[2,1]}"#, " | f:v | 0 | false"),
     (
         r#"{"l":[{"n":3},{"n":1,"t":1},{"n":2}]}"#,
         r#"{"l":[{"n":3},{"n":1},{"n":2}]}"#,
-        " |  | true",
+        " |  | 0 | true",
     ),
     (
         r#"{"l":[{"n":3},{"n":1,"t":1},{"n":2}]}"#,
         r#"{"l":[{"n":3},{"n":1,"t":2},{"n":2}]}"#,
-        r#" | f:l/k:{"n":1}/f:t | false"#,
+        r#" | f:l/k:{"n":1}/f:t | 0 | false"#,
+    ),
+    (
+        r#"{"a":1,"r":{}}"#,
+        r#"{"d":{"x":1,"z":2},"e":{"x":{"x":1}},"r":{"x":1},"s":[1,2],"v":[1,2]}"#,
+        "f:d/f:x f:d/f:z f:e/f:x f:e/f:x/f:x f:r/f:x f:s/v:1 f:s/v:2 f:v |  | 11 | false",
     ),
 ];
+
+// A count.
+fn number(alloc: Global, count: usize) -> Result<String, Fail> {
+    Ok(format!(in alloc; "{count}")?)
+}
 
 // How a part that is put over a body differs from it.
 fn compared_part(alloc: Global, body: &Body, part: &Body) -> Result<String, Fail> {
     let differing = body.compare_part(alloc, part)?;
     let added = listed(alloc, &differing.added)?;
     let modified = listed(alloc, &differing.modified)?;
+    let places = number(alloc, differing.new_places)?;
     let repeats = truth(alloc, differing.repeats)?;
-    Ok([added.as_str(), modified.as_str(), repeats.as_str()].join(alloc, " | ")?)
+    let told = [
+        added.as_str(),
+        modified.as_str(),
+        places.as_str(),
+        repeats.as_str(),
+    ];
+    Ok(told.join(alloc, " | ")?)
 }
 
 // The body that is set beside paths.
@@ -324,7 +342,8 @@ const ORDERS: [(&str, &str, &str); 15] = [
 pub enum AskedBeside {
     /// The paths that the other adds, modifies and removes.
     Compared,
-    /// The paths that the other, a part that is put over the body, adds and modifies, and whether it repeats what is there.
+    /// The paths that the other, a part that is put over the body, adds and modifies, how many places are new, and whether it
+    /// repeats what is there.
     Part,
     /// Whether the two are one.
     Same,
