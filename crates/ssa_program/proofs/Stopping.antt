@@ -1,7 +1,9 @@
 -- A call that stops, told by other words.
-use Rattle.std.proofs.Common.{ℕ}
+use Rattle.std.specs.Prelude.{◌⊎◌}
+use Rattle.std.proofs.Common.{◌≡◌, ℕ, inl, inr}
 use Rattle.ssa_program.specs.Outcome.{Outcome, IsMade}
 use Rattle.ssa_program.specs.Stops.{StopsBy, IsNoFault, IsUnchanged, IsUnloaded, IsUnmade, IsUnsaved}
+use Rattle.ssa_program.specs.Trouble.{IsNamed}
 use Rattle.ssa_disk.specs.Files.{Files, Standing}
 use Rattle.ssa_model.specs.definitions.Json.{Text}
 use Rattle.ssa_program.specs.declared.trouble.Trouble.{Trouble}
@@ -64,3 +66,23 @@ unmade_unsaved files schema object depth o come OutOfMemory is = is
 unmade_unsaved files schema object depth o come SessionBroken is = is
 unmade_unsaved files schema object depth o come CannotPrint is = is
 unmade_unsaved files schema object depth o come (SavedUnprinted n) is = is
+
+one_of : (A : Type 0) → A ⊎ (A ⊎ A) → A
+one_of A (inl a) = a
+one_of A (inr (inl a)) = a
+one_of A (inr (inr a)) = a
+
+-- where the bench's name alone is told, other names may be told too
+pub named_more : (bench one other : Text) (t : Trouble) → IsNamed bench bench bench t → IsNamed bench one other t
+named_more bench one other (CannotRead n) is = inl (one_of (n.now ≡ bench) is)
+named_more bench one other (CannotWrite n) is = is
+named_more bench one other (NoPlainFile n) is = is
+named_more bench one other (OwnSource n) is = is
+named_more bench one other (DraftIsThere draft n) is = is
+named_more bench one other (Load f) is = is
+named_more bench one other (File f) is = is
+named_more bench one other BenchTooLong is = is
+named_more bench one other OutOfMemory is = is
+named_more bench one other SessionBroken is = is
+named_more bench one other CannotPrint is = is
+named_more bench one other (SavedUnprinted n) is = is

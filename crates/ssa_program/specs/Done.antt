@@ -15,6 +15,7 @@ use Rattle.ssa_program.specs.Kept.{IsKept}
 use Rattle.ssa_program.specs.Outcome.{Outcome, IsAnswered, IsBenchAt, IsChanged, IsMade, IsSeen}
 use Rattle.ssa_program.specs.Stops.{Stops, IsSaid, IsUnchanged, IsUnloaded, IsUnmade, IsUnsaved}
 use Rattle.ssa_program.specs.Telling.{IsCut}
+use Rattle.ssa_program.specs.Trouble.{IsNamed}
 use Rattle.ssa_program.specs.declared.status.Status.{Status}
 use Rattle.ssa_program.specs.declared.status.Status.TheVariants.{Done}
 use Rattle.ssa_program.specs.declared.trouble.Trouble.{Trouble}
@@ -161,3 +162,16 @@ module _ (old new : Files) {W : Type 0} (contents : W → Option Text) (has_fail
     IsStopped (Owners bench path) t = LookStops bench.now (IsSeen old bench.now (owners path.now)) t
     IsStopped (Log bench) t = LookStops bench.now (IsSeen old bench.now log) t
     IsStopped (Session bench) t = HoldStops bench.now t
+
+-- what is told of a file is told of one that the call names
+abbrev pub IsNamedBy : Call → Trouble → Type 0
+IsNamedBy (Init schema object bench depth) = IsNamed bench.now schema.now object.now
+IsNamedBy (Apply bench file at manager status force) = IsNamed bench.now file.now file.now
+IsNamedBy (Update bench file at manager status) = IsNamed bench.now file.now file.now
+IsNamedBy (Strip bench) = IsNamed bench.now bench.now bench.now
+IsNamedBy (Undo bench) = IsNamed bench.now bench.now bench.now
+IsNamedBy (Redo bench) = IsNamed bench.now bench.now bench.now
+IsNamedBy (Show bench managed) = IsNamed bench.now bench.now bench.now
+IsNamedBy (Owners bench path) = IsNamed bench.now bench.now bench.now
+IsNamedBy (Log bench) = IsNamed bench.now bench.now bench.now
+IsNamedBy (Session bench) = IsNamed bench.now bench.now bench.now

@@ -5,7 +5,7 @@ use Rattle.ssa_model.specs.definitions.Lines.{line_feed}
 use Rattle.ssa_model.specs.definitions.Session.{out_of_memory_text}
 use Rattle.ssa_disk.specs.Files.{Files}
 use Rattle.ssa_words.specs.declared.call.Call.{Call}
-use Rattle.ssa_program.specs.Done.{IsDone, IsStopped}
+use Rattle.ssa_program.specs.Done.{IsDone, IsNamedBy, IsStopped}
 use Rattle.ssa_program.specs.Status.{status_code}
 use Rattle.ssa_program.specs.Telling.{IsNoted, IsTold}
 use Rattle.ssa_program.specs.Trouble.{EndsBy, Tells}
@@ -27,6 +27,7 @@ module _ (old new : Files) {W E : Type 0} (contents : W → Option Text) (has_fa
     pub trouble : Trouble
     pub writer_then : W
     pub stopped : IsStopped old new contents has_failed writer writer_then left left_after ReaderFailed call trouble
+    pub named : IsNamedBy call trouble
     pub errors_then : E
     pub tells : Tells
         (λ line. IsTold contents has_failed writer_then writer_new (line ++ line_feed ∷ []) × (errors_then ≡ errors))

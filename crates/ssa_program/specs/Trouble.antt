@@ -37,6 +37,16 @@ module _ (Replies Person : Text → Type 0) (Silent : Type 0) where
   Tells CannotPrint = Silent
   Tells (SavedUnprinted name) = Person (named_line (codes "ssabench: ") name.now (codes " is saved, but the reply cannot be printed")) ⊎ Replies out_of_memory_text
 
+-- A trouble tells the bench's name, or where a file cannot be read, that one's: the bench's, or one of two others.
+abbrev pub IsNamed : Text → Text → Text → Trouble → Type 0
+IsNamed bench one other (CannotRead n) = (n.now ≡ bench) ⊎ ((n.now ≡ one) ⊎ (n.now ≡ other))
+IsNamed bench one other (CannotWrite n) = n.now ≡ bench
+IsNamed bench one other (NoPlainFile n) = n.now ≡ bench
+IsNamed bench one other (OwnSource n) = n.now ≡ bench
+IsNamed bench one other (DraftIsThere draft n) = n.now ≡ bench
+IsNamed bench one other (SavedUnprinted n) = n.now ≡ bench
+IsNamed bench one other _ = Unit {0}
+
 -- the trouble of reading the file of this name
 abbrev pub IsReadTrouble : Text → Trouble → Type 0
 IsReadTrouble name (CannotRead n) = n.now ≡ name

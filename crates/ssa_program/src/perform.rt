@@ -1,9 +1,10 @@
 //! Carries out what the words of the program ask for.
-ghost use Rattle.std.specs.Prelude.{◌≡◌, ◌++◌, ◌∷◌, ◌<◌, ◌⊎◌, [], None, Some, Ok, Err, false, true, codes, is_some, if◌then◌else◌, IfErr, IfOk, OnErr, OnOk, string_bytes};
+ghost use Rattle.std.specs.Prelude.{◌≡◌, ◌++◌, ◌∷◌, ◌<◌, ◌⊎◌, [], None, Some, Ok, Err, false, true, codes, is_some, if◌then◌else◌, IfErr, IfOk, IfSome, OnErr, OnOk, string_bytes};
 ghost use Rattle.std.specs.Io.KnownBytes.{Appends};
 ghost use Rattle.ssa_model.specs.definitions.BenchText.{depths};
 ghost use Rattle.ssa_model.specs.definitions.Files.{bench_with_file, schema_of_file};
 ghost use Rattle.ssa_model.specs.definitions.History as history;
+ghost use Rattle.ssa_model.specs.definitions.Json.{Text};
 ghost use Rattle.ssa_model.specs.definitions.Lines.{line_feed};
 ghost use Rattle.ssa_model.specs.definitions.RecordedBench.{recorded_text};
 ghost use Rattle.ssa_model.specs.definitions.Schema as model;
@@ -15,14 +16,14 @@ ghost use Rattle.ssa_path.specs.Subresources.{part_view};
 ghost use Rattle.ssa_session.specs.Files.{IsGivenFile};
 ghost use Rattle.ssa_session.specs.declared.files.FileFault.{FileFault};
 ghost use Rattle.ssa_program.specs.Asked.{is_asked_accepted};
-ghost use Rattle.ssa_program.specs.Done.{BreaksOff, ChangeStops, Changes, ComesTo, EndsAs, HoldStops, Holds, IsDone, IsHeld, IsStopped, LookStops, Looks, MakeStops, Makes, RunsToEnd};
+ghost use Rattle.ssa_program.specs.Done.{BreaksOff, ChangeStops, Changes, ComesTo, EndsAs, HoldStops, Holds, IsDone, IsHeld, IsNamedBy, IsStopped, LookStops, Looks, MakeStops, Makes, RunsToEnd};
 ghost use Rattle.ssa_program.specs.Kept.{IsKeptBy, IsPut};
 ghost use Rattle.ssa_program.specs.Outcome.{IsAnswered, IsAskedBy, IsChange, IsChanged, IsSeen, part_of, saved_for};
 ghost use Rattle.ssa_program.specs.Performed.{IsPerformed};
 ghost use Rattle.ssa_program.specs.Status.{status_for};
 ghost use Rattle.ssa_program.specs.Stops.{IsNoFault, IsSaid, IsUnchanged, IsUnloaded, IsUnsaved, Stops};
 ghost use Rattle.ssa_program.specs.Telling.{IsCut};
-ghost use Rattle.ssa_program.specs.Trouble.{IsSaveTrouble};
+ghost use Rattle.ssa_program.specs.Trouble.{IsNamed, IsSaveTrouble};
 ghost use Rattle.ssa_program.specs.declared.trouble.Trouble.TheVariants.{File};
 
 use crate::answer::{Reply, answer};
@@ -88,6 +89,7 @@ fn carry_out<'a, D: Disk, R: Source, W: Sink>(
 ) -> Result<Status, Trouble<'a>>
     ensures done { IfOk result (λ s. D.tells ≡ true → IsDone (D.view disk.old) (D.view disk.new) W.contents W.has_failed writer.old writer.new
         (R.remaining reader.old) (R.remaining reader.new) (R.has_failed reader.new ≡ true) call.now s) }
+    ensures named { IfErr result (IsNamedBy call.now) }
     ensures stopped { IfErr result (λ t. D.tells ≡ true → IsStopped (D.view disk.old) (D.view disk.new) W.contents W.has_failed writer.old writer.new
         (R.remaining reader.old) (R.remaining reader.new) (R.has_failed reader.new ≡ true) call.now t) }
 {
@@ -173,6 +175,7 @@ fn init<'a, D: Disk, W: Sink>(
 ) -> Result<Status, Trouble<'a>>
     ensures done { IfOk result (λ s. D.tells ≡ true → Makes (D.view disk.old) (D.view disk.new) W.contents W.has_failed writer.old writer.new
         schema.now object.now bench.now depth s) }
+    ensures named { IfErr result (IsNamed bench.now schema.now object.now) }
     ensures stopped { IfErr result (λ t. D.tells ≡ true → MakeStops (D.view disk.old) (D.view disk.new) W.contents W.has_failed writer.old writer.new
         schema.now object.now bench.now depth t) }
 {
@@ -208,6 +211,7 @@ fn save_new<'a, D: Disk, W: Sink>(
     ensures done { IfOk result (λ s. D.tells ≡ true → (s ≡ Status.Done)
         × (Appends (W.contents writer.old) (W.contents writer.new) (init_text bench.now ++ line_feed ∷ [])
         × IsPut (recorded_text depths bench.now) (string_bytes place.name ++ codes ".new") (string_bytes place.name) (D.view disk.old) (D.view disk.new))) }
+    ensures named { IfErr result (IsNamed name.now name.now name.now) }
     ensures stopped { IfErr result (λ t. D.tells ≡ true → Stops
         (IsAsBut (string_bytes place.name ++ codes ".new") (D.view disk.old) (D.view disk.new) × ((writer.new ≡ writer.old) × IsUnsaved (Some (recorded_text depths bench.now)) t))
         (λ said. (said ≡ true) × (IsCut W.contents W.has_failed writer.old writer.new (init_text bench.now ++ line_feed ∷ [])
@@ -279,6 +283,7 @@ fn change_bench<'a, D: Disk, W: Sink>(
     requires { IsChange call.now }
     ensures done { IfOk result (λ s. D.tells ≡ true → Changes (D.view disk.old) (D.view disk.new) W.contents W.has_failed writer.old writer.new
         bench.now (λ files. IsChanged files bench.now file.now call.now) s) }
+    ensures named { IfErr result (IsNamed bench.now file.now file.now) }
     ensures stopped { IfErr result (λ t. D.tells ≡ true → ChangeStops (D.view disk.old) (D.view disk.new) W.contents W.has_failed writer.old writer.new
         bench.now (λ files. IsChanged files bench.now file.now call.now) t) }
 {
@@ -306,6 +311,7 @@ fn change_locked<'a, D: Disk, W: Sink>(
         (IsChanged (D.view disk.old) name.now file.now call.now)
         (λ saved. IsKeptBy saved draft.new.is_placed (string_bytes draft.old.name) (string_bytes draft.old.place.name) (D.view disk.old) (D.view disk.new))
         (Appends (W.contents writer.old) (W.contents writer.new)) s) }
+    ensures named { IfErr result (IsNamed name.now file.now file.now) }
     ensures stopped { IfErr result (λ t. D.tells ≡ true → D.Made.contents draft.old.made ≡ Some [] → Stops
         (IsAsBut (string_bytes draft.old.name) (D.view disk.old) (D.view disk.new) × ((writer.new ≡ writer.old) × IsUnchanged (under (D.view disk.old) name.now) (IsChanged (D.view disk.old) name.now file.now call.now) t))
         (λ said. ComesTo (IsChanged (D.view disk.old) name.now file.now call.now) (IsSaid said
@@ -332,6 +338,7 @@ fn move_bench<'a, D: Disk, W: Sink>(
 ) -> Result<Status, Trouble<'a>>
     ensures done { IfOk result (λ s. D.tells ≡ true → Changes (D.view disk.old) (D.view disk.new) W.contents W.has_failed writer.old writer.new
         name.now (λ files. IsAnswered files name.now (asked_view asked.entry)) s) }
+    ensures named { IfErr result (IsNamed name.now name.now name.now) }
     ensures stopped { IfErr result (λ t. D.tells ≡ true → ChangeStops (D.view disk.old) (D.view disk.new) W.contents W.has_failed writer.old writer.new
         name.now (λ files. IsAnswered files name.now (asked_view asked.entry)) t) }
 {
@@ -355,6 +362,7 @@ fn move_locked<'a, D: Disk, W: Sink>(
         (IsAnswered (D.view disk.old) name.now (asked_view asked.entry))
         (λ saved. IsKeptBy saved draft.new.is_placed (string_bytes draft.old.name) (string_bytes draft.old.place.name) (D.view disk.old) (D.view disk.new))
         (Appends (W.contents writer.old) (W.contents writer.new)) s) }
+    ensures named { IfErr result (IsNamed name.now name.now name.now) }
     ensures stopped { IfErr result (λ t. D.tells ≡ true → D.Made.contents draft.old.made ≡ Some [] → Stops
         (IsAsBut (string_bytes draft.old.name) (D.view disk.old) (D.view disk.new) × ((writer.new ≡ writer.old) × IsUnchanged (under (D.view disk.old) name.now) (IsAnswered (D.view disk.old) name.now (asked_view asked.entry)) t))
         (λ said. ComesTo (IsAnswered (D.view disk.old) name.now (asked_view asked.entry)) (IsSaid said
@@ -379,6 +387,7 @@ fn look<'a, D: Disk, W: Sink>(
 ) -> Result<Status, Trouble<'a>>
     ensures done { IfOk result (λ s. D.tells ≡ true → Looks (D.view disk.now) (D.view disk.now) W.contents W.has_failed writer.old writer.new
         (IsSeen (D.view disk.now) name.now (asked_view asked.entry)) s) }
+    ensures named { IfErr result (IsNamed name.now name.now name.now) }
     ensures stopped { IfErr result (λ t. D.tells ≡ true → LookStops (D.view disk.now) (D.view disk.now) W.contents W.has_failed writer.old writer.new
         name.now (IsSeen (D.view disk.now) name.now (asked_view asked.entry)) t) }
 {
@@ -394,6 +403,7 @@ fn write_answer<'a, W: Sink>(
 ) -> Result<Status, Trouble<'a>>
     ensures reply { OnOk result (Appends (W.contents writer.old) (W.contents writer.new) (reply.text.items ++ line_feed ∷ [])) }
     ensures ended { IfOk result (λ s. s ≡ status_for reply.is_accepted) }
+    ensures named { (n : Text) → IfSome saved.entry (λ name. name.now ≡ n) → IfErr result (IsNamed n n n) }
     ensures cut { IfErr result (Stops ⊥
         (λ said. (said ≡ is_some saved.entry) × IsCut W.contents W.has_failed writer.old writer.new (reply.text.items ++ line_feed ∷ [])) ⊥) }
 {
@@ -426,6 +436,7 @@ fn answer_look<'a, W: Sink>(
     ensures reply { OnOk result (Appends (W.contents writer.old) (W.contents writer.new)
         ((asked_answer readings bench.old (asked_view asked.entry)).0 ++ line_feed ∷ [])) }
     ensures ended { IfOk result (λ s. s ≡ status_for (is_asked_accepted bench.old (asked_view asked.entry))) }
+    ensures named { (n : Text) → IfErr result (IsNamed n n n) }
     ensures stopped { IfErr result (λ t. Stops ((writer.new ≡ writer.old) × IsNoFault t)
         (λ said. (said ≡ false) × IsCut W.contents W.has_failed writer.old writer.new
         ((asked_answer readings bench.old (asked_view asked.entry)).0 ++ line_feed ∷ [])) ⊥ t) }
@@ -457,6 +468,7 @@ fn answer_and_save<'a, D: Disk, W: Sink>(
     ensures kept { OnOk result (D.tells ≡ true → D.Made.contents draft.old.made ≡ Some []
         → IsKeptBy (saved_for bench.old (asked_view asked.entry)) draft.new.is_placed
         (string_bytes draft.old.name) (string_bytes draft.old.place.name) (D.view disk.old) (D.view disk.new)) }
+    ensures named { IfErr result (IsNamed name.now name.now name.now) }
 
     // No reply stands before the file.
     ensures stopped { IfErr result (λ t. D.tells ≡ true → D.Made.contents draft.old.made ≡ Some [] → Stops
@@ -489,6 +501,7 @@ fn save_change<'a, D: Disk>(
         → IsKeptBy (if is_change then Some (recorded_text depths bench.now) else None) draft.new.is_placed
         (string_bytes draft.old.name) (string_bytes draft.old.place.name) (D.view disk.old) (D.view disk.new)) }
     ensures told { IfOk result (λ saved. is_some saved ≡ is_change) }
+    ensures named { IfOk result (λ saved. IfSome saved (λ s. s.now ≡ name.now)) }
     ensures err { OnErr result (IsAsBut (string_bytes draft.old.name) (D.view disk.old) (D.view disk.new)) }
     ensures trouble { IfErr result (λ t. (is_change ≡ true) × IsSaveTrouble name.now (recorded_text depths bench.now) t) }
 {
@@ -512,6 +525,7 @@ fn hold_session<'a, D: Disk, R: Source, W: Sink>(
 ) -> Result<Status, Trouble<'a>>
     ensures done { IfOk result (λ s. D.tells ≡ true → Holds (D.view disk.old) (D.view disk.new) W.contents W.has_failed writer.old writer.new
         (R.remaining reader.old) (R.remaining reader.new) (R.has_failed reader.new ≡ true) name.now s) }
+    ensures named { IfErr result (IsNamed name.now name.now name.now) }
     ensures stopped { IfErr result (λ t. D.tells ≡ true → HoldStops (D.view disk.old) (D.view disk.new) W.contents W.has_failed writer.old writer.new
         (R.remaining reader.old) (R.remaining reader.new) (R.has_failed reader.new ≡ true) name.now t) }
 {
@@ -537,6 +551,7 @@ fn hold_locked<'a, D: Disk, R: Source, W: Sink>(
         RunsToEnd (R.remaining reader.old) (R.remaining reader.new) (W.contents writer.old) (W.contents writer.new) held after
         × IsKeptBy (Some (recorded_text depths after)) draft.new.is_placed
         (string_bytes draft.old.name) (string_bytes draft.old.place.name) (D.view disk.old) (D.view disk.new))) }
+    ensures named { IfErr result (IsNamed name.now name.now name.now) }
     ensures stopped { IfErr result (λ t. D.tells ≡ true → Stops
         (IsAsBut (string_bytes draft.old.name) (D.view disk.old) (D.view disk.new)
         × ((IsUnloaded (under (D.view disk.old) name.now) t × (writer.new ≡ writer.old))
@@ -569,6 +584,7 @@ fn hold_and_save<'a, D: Disk, R: Source, W: Sink>(
     ensures kept { OnOk result (D.tells ≡ true → D.Made.contents draft.old.made ≡ Some []
         → IsKeptBy (Some (recorded_text depths bench.new)) draft.new.is_placed
         (string_bytes draft.old.name) (string_bytes draft.old.place.name) (D.view disk.old) (D.view disk.new)) }
+    ensures named { IfErr result (IsNamed name.now name.now name.now) }
 
     // A session that broke off, or was not saved, leaves the file.
     ensures stopped { IfErr result (λ t. Stops

@@ -52,3 +52,6 @@ returns-clause-stopped g c =
     (saved_change tells blank c.args.bench.now c.answer.new.bench asked c.in_ok-reply.reply.is_change c.save_change.new.draft.is_placed draft place old new
     c.in_ok-reply.ensures.change c.in_ok-reply.ensures.after c.in_ok-saved.ensures.kept)
     c.write_answer.ensures.cut)
+
+pub returns-clause-named : goal.returns-clause-named
+returns-clause-named g c = c.write_answer.ensures.named c.args.name.now c.in_ok-saved.ensures.named

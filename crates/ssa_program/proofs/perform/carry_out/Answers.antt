@@ -1,7 +1,7 @@
 use Rattle.std.proofs.Common.{◌≡◌, true, sym, subst}
 use Rattle.std.specs.Result.{IfErr, IfOk}
 use Rattle.ssa_words.specs.declared.call.Call.{Call}
-use Rattle.ssa_program.specs.Done.{ChangeStops, IsDone, IsStopped}
+use Rattle.ssa_program.specs.Done.{ChangeStops, IsDone, IsNamedBy, IsStopped}
 use Rattle.ssa_program.specs.Outcome.{IsChanged}
 use Rattle.ssa_program.proofs.perform.carry_out.Goals as goal
 
@@ -37,3 +37,12 @@ returns-in-Update-clause-stopped g c =
     g.W.Sink.contents g.W.Sink.has_failed c.args.writer.now c.change_bench-in-Update.new.writer
     c.in-Update.bench.now (λ files. IsChanged files c.in-Update.bench.now c.in-Update.file.now k) t))
     c.in-Update.is c.change_bench-in-Update.ensures.stopped)
+
+pub returns-in-Init-clause-named : goal.returns-in-Init-clause-named
+returns-in-Init-clause-named g c = subst (λ (k : Call). IfErr c.init.result (IsNamedBy k)) (sym c.in-Init.is) c.init.ensures.named
+
+pub returns-in-Apply-clause-named : goal.returns-in-Apply-clause-named
+returns-in-Apply-clause-named g c = subst (λ (k : Call). IfErr c.change_bench.result (IsNamedBy k)) (sym c.in-Apply.is) c.change_bench.ensures.named
+
+pub returns-in-Update-clause-named : goal.returns-in-Update-clause-named
+returns-in-Update-clause-named g c = subst (λ (k : Call). IfErr c.change_bench-in-Update.result (IsNamedBy k)) (sym c.in-Update.is) c.change_bench-in-Update.ensures.named

@@ -5,6 +5,9 @@ use Rattle.ssa_answers.specs.Asked.{asked_view}
 use Rattle.ssa_disk.specs.Files.{under}
 use Rattle.ssa_program.specs.Outcome.{IsBenchAt, IsChanged, IsInput}
 use Rattle.ssa_program.proofs.Calls.{locked_done, locked_stopped}
+use Rattle.ssa_program.proofs.Stopping.{named_more}
+use Rattle.ssa_program.specs.Trouble.{IsNamed}
+use Rattle.std.proofs.lemmas.Result.{IfErr-weaker}
 use Rattle.ssa_program.proofs.perform.change_locked.Goals as goal
 
 pub returns-clause-done : goal.returns-clause-done
@@ -44,3 +47,9 @@ returns-clause-stopped g c =
       answered = record { held = held; is_held = subst (λ (b : Bench). IsBenchAt (under old name) b) same (c.in_ok-load_bench.ensures.loaded told); outcome = refl };
     })
     c.answer_and_save.result (under old name) c.answer_and_save.ensures.stopped
+
+pub returns-clause-named : goal.returns-clause-named
+returns-clause-named g c =
+    let name = c.args.name.now in
+    let file = c.args.file.now in
+    IfErr-weaker c.answer_and_save.result (IsNamed name name name) (IsNamed name file file) (named_more name file file) c.answer_and_save.ensures.named

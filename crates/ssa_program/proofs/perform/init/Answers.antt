@@ -6,6 +6,9 @@ use Rattle.ssa_json.specs.Readings.{readings}
 use Rattle.ssa_disk.specs.Files.{under}
 use Rattle.ssa_program.specs.Outcome.{IsInput}
 use Rattle.ssa_program.proofs.Calls.{made_of, new_done, new_stopped}
+use Rattle.ssa_program.proofs.Stopping.{named_more}
+use Rattle.ssa_program.specs.Trouble.{IsNamed}
+use Rattle.std.proofs.lemmas.Result.{IfErr-weaker}
 use Rattle.ssa_program.proofs.perform.init.Goals as goal
 
 pub returns-clause-done : goal.returns-clause-done
@@ -39,3 +42,10 @@ returns-clause-stopped g c =
     c.args.schema.now c.args.object.now c.args.bench.now (string_bytes c.in_ok-place.place.name) c.args.depth
     files (g.D.Disk.view c.save_new.new.disk) made c.in_ok-place.ensures.own c.in_ok-place.ensures.place is
     c.save_new.result c.save_new.ensures.stopped
+
+pub returns-clause-named : goal.returns-clause-named
+returns-clause-named g c =
+    let bench = c.args.bench.now in
+    let schema = c.args.schema.now in
+    let object = c.args.object.now in
+    IfErr-weaker c.save_new.result (IsNamed bench bench bench) (IsNamed bench schema object) (named_more bench schema object) c.save_new.ensures.named

@@ -23,3 +23,6 @@ returns-clause-stopped g c =
     (asked_view c.args.asked) c.deref_mut.result.now
     (λ told. subst (λ (b : Bench). IsBenchAt (under files c.args.name.now) b) same (c.in_ok-load_bench.ensures.loaded told))
     c.answer_look.result c.answer_look.ensures.stopped
+
+pub returns-clause-named : goal.returns-clause-named
+returns-clause-named g c = c.answer_look.ensures.named c.args.name.now
