@@ -4,7 +4,7 @@ use Rattle.ssa_answers.specs.Asked.{asked_view}
 use Rattle.ssa_disk.specs.Files.{IsAsBut}
 use Rattle.ssa_program.specs.Outcome.{IsAnswered}
 use Rattle.ssa_program.proofs.Calls.{change_done, change_stopped}
-use Rattle.ssa_program.proofs.perform.move_bench.Goals as goal
+use Rattle.ssa_program.proofs.changing.move_bench.Goals as goal
 
 pub returns-clause-done : goal.returns-clause-done
 returns-clause-done g c =

@@ -12,7 +12,7 @@ use Rattle.ssa_program.specs.Stops.{IsUnsaved, Stops}
 use Rattle.ssa_program.specs.Telling.{IsCut}
 use Rattle.ssa_program.specs.declared.trouble.Trouble.{Trouble}
 use Rattle.ssa_program.proofs.Calls.{cut_stops, on_ok, said_change, saved_change}
-use Rattle.ssa_program.proofs.perform.answer_and_save.Goals as goal
+use Rattle.ssa_program.proofs.changing.answer_and_save.Goals as goal
 
 pub returns-clause-reply : goal.returns-clause-reply
 returns-clause-reply g c =

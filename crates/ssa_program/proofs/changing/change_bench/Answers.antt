@@ -3,7 +3,7 @@ use Rattle.ssa_model.specs.definitions.Json.{Text}
 use Rattle.ssa_disk.specs.Files.{IsAsBut}
 use Rattle.ssa_program.specs.Outcome.{IsChanged}
 use Rattle.ssa_program.proofs.Calls.{change_done, change_stopped}
-use Rattle.ssa_program.proofs.perform.change_bench.Goals as goal
+use Rattle.ssa_program.proofs.changing.change_bench.Goals as goal
 
 pub returns-clause-done : goal.returns-clause-done
 returns-clause-done g c =

@@ -7,7 +7,7 @@ use Rattle.ssa_disk.specs.Files.{Files}
 use Rattle.ssa_program.specs.Kept.{IsPut}
 use Rattle.ssa_program.specs.Telling.{IsCut}
 use Rattle.ssa_program.proofs.Kept.{put_after}
-use Rattle.ssa_program.proofs.perform.save_new.Goals as goal
+use Rattle.ssa_program.proofs.making.save_new.Goals as goal
 
 pub returns-in-Ok-clause-done : goal.returns-in-Ok-clause-done
 returns-in-Ok-clause-done g c = λ told.

@@ -4,7 +4,7 @@ use Rattle.ssa_disk.specs.Files.{under}
 use Rattle.ssa_program.specs.Done.{BreaksOff, RunsToEnd}
 use Rattle.ssa_program.specs.Outcome.{IsBenchAt}
 use Rattle.ssa_program.proofs.Calls.{held_done, held_stopped}
-use Rattle.ssa_program.proofs.perform.hold_locked.Goals as goal
+use Rattle.ssa_program.proofs.holding.hold_locked.Goals as goal
 
 pub returns-clause-done : goal.returns-clause-done
 returns-clause-done g c =

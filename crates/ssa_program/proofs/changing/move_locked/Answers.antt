@@ -4,7 +4,7 @@ use Rattle.ssa_answers.specs.Asked.{asked_view}
 use Rattle.ssa_disk.specs.Files.{under}
 use Rattle.ssa_program.specs.Outcome.{IsBenchAt, IsAnswered}
 use Rattle.ssa_program.proofs.Calls.{locked_done, locked_stopped}
-use Rattle.ssa_program.proofs.perform.move_locked.Goals as goal
+use Rattle.ssa_program.proofs.changing.move_locked.Goals as goal
 
 pub returns-clause-done : goal.returns-clause-done
 returns-clause-done g c =

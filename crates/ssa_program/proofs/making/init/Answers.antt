@@ -9,7 +9,7 @@ use Rattle.ssa_program.proofs.Calls.{made_of, new_done, new_stopped}
 use Rattle.ssa_program.proofs.Stopping.{named_more}
 use Rattle.ssa_program.specs.Trouble.{IsNamed}
 use Rattle.std.proofs.lemmas.Result.{IfErr-weaker}
-use Rattle.ssa_program.proofs.perform.init.Goals as goal
+use Rattle.ssa_program.proofs.making.init.Goals as goal
 
 pub returns-clause-done : goal.returns-clause-done
 returns-clause-done g c =

@@ -4,7 +4,7 @@ use Rattle.ssa_answers.specs.Asked.{asked_view}
 use Rattle.ssa_disk.specs.Files.{under}
 use Rattle.ssa_program.specs.Outcome.{IsBenchAt}
 use Rattle.ssa_program.proofs.Calls.{look_done, look_stopped}
-use Rattle.ssa_program.proofs.perform.look.Goals as goal
+use Rattle.ssa_program.proofs.changing.look.Goals as goal
 
 pub returns-clause-done : goal.returns-clause-done
 returns-clause-done g c =

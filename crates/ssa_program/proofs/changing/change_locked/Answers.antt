@@ -8,7 +8,7 @@ use Rattle.ssa_program.proofs.Calls.{locked_done, locked_stopped}
 use Rattle.ssa_program.proofs.Stopping.{named_more}
 use Rattle.ssa_program.specs.Trouble.{IsNamed}
 use Rattle.std.proofs.lemmas.Result.{IfErr-weaker}
-use Rattle.ssa_program.proofs.perform.change_locked.Goals as goal
+use Rattle.ssa_program.proofs.changing.change_locked.Goals as goal
 
 pub returns-clause-done : goal.returns-clause-done
 returns-clause-done g c =

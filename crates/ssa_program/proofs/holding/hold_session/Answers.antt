@@ -3,7 +3,7 @@ use Rattle.ssa_model.specs.definitions.Json.{Text}
 use Rattle.ssa_disk.specs.Files.{IsAsBut}
 use Rattle.ssa_program.specs.Done.{BreaksOff, RunsToEnd}
 use Rattle.ssa_program.proofs.Calls.{session_done, session_stopped}
-use Rattle.ssa_program.proofs.perform.hold_session.Goals as goal
+use Rattle.ssa_program.proofs.holding.hold_session.Goals as goal
 
 pub returns-clause-done : goal.returns-clause-done
 returns-clause-done g c =
