@@ -1,4 +1,1 @@
-pub mod Calls
-pub mod Kept
-pub mod Stopping
 pub mod Unchanged
