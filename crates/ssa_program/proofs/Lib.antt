@@ -1,1 +1,4 @@
+pub mod Calls
+pub mod Kept
+pub mod Stopping
 pub mod Unchanged

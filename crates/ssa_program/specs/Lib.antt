@@ -1,5 +1,11 @@
 pub mod Asked
+pub mod Done
+pub mod Kept
 pub mod Names
+pub mod Outcome
+pub mod Performed
 pub mod Status
+pub mod Stops
+pub mod Telling
 pub mod Trouble
 pub mod Usage

@@ -1,5 +1,5 @@
 -- The lines that tell why a call of the program does not come to its reply.
-use Rattle.std.specs.Prelude.{◌≡◌, ◌<◌, length, [], ◌∷◌, ◌++◌, ◌⊎◌, codes, string_bytes}
+use Rattle.std.specs.Prelude.{◌≡◌, ◌<◌, length, [], ◌++◌, ◌⊎◌, codes, string_bytes}
 use Rattle.ssa_model.specs.definitions.Json.{Text, compact}
 use Rattle.ssa_model.specs.definitions.Limits.{most_bench_bytes}
 use Rattle.ssa_model.specs.definitions.Faults.{bench_too_long}
@@ -22,7 +22,7 @@ draft_line draft bench = (named_line (codes "ssabench: ") draft (codes " is ther
 
 -- What a trouble writes: a line where the replies stand, or one for a person. Where memory runs out while a line is made,
 -- the line of want of memory stands in its place.
-module _ (Replies Person : Text → Type 0) where
+module _ (Replies Person : Text → Type 0) (Silent : Type 0) where
   abbrev pub Tells : Trouble → Type 0
   Tells (CannotRead name) = Person (named_line (codes "ssabench: cannot read ") name.now []) ⊎ Replies out_of_memory_text
   Tells (CannotWrite name) = Person (named_line (codes "ssabench: cannot write ") name.now []) ⊎ Replies out_of_memory_text
@@ -34,8 +34,18 @@ module _ (Replies Person : Text → Type 0) where
   Tells BenchTooLong = Replies (compact (fault_json bench_too_long))
   Tells OutOfMemory = Replies out_of_memory_text
   Tells SessionBroken = Person (codes "ssabench: session ended unsaved")
-  Tells CannotPrint = Unit {0}
+  Tells CannotPrint = Silent
   Tells (SavedUnprinted name) = Person (named_line (codes "ssabench: ") name.now (codes " is saved, but the reply cannot be printed")) ⊎ Replies out_of_memory_text
+
+-- A trouble tells the bench's name, or where a file cannot be read, that one's: the bench's, or one of two others.
+abbrev pub IsNamed : Text → Text → Text → Trouble → Type 0
+IsNamed bench one other (CannotRead n) = (n.now ≡ bench) ⊎ ((n.now ≡ one) ⊎ (n.now ≡ other))
+IsNamed bench one other (CannotWrite n) = n.now ≡ bench
+IsNamed bench one other (NoPlainFile n) = n.now ≡ bench
+IsNamed bench one other (OwnSource n) = n.now ≡ bench
+IsNamed bench one other (DraftIsThere draft n) = n.now ≡ bench
+IsNamed bench one other (SavedUnprinted n) = n.now ≡ bench
+IsNamed bench one other _ = Unit {0}
 
 -- the trouble of reading the file of this name
 abbrev pub IsReadTrouble : Text → Trouble → Type 0
@@ -73,7 +83,8 @@ IsSaveTrouble name text BenchTooLong = most_bench_bytes < length text
 IsSaveTrouble name text OutOfMemory = Unit {0}
 IsSaveTrouble name text _ = ⊥
 
--- a refused file ends the program as a refusal does, if its line is made, and any other trouble as a break
-abbrev pub EndsBy : Trouble → Status → Type 0
-EndsBy (File f) s = (s ≡ Refused) ⊎ (s ≡ Broken)
-EndsBy _ s = s ≡ Broken
+-- A refused file ends the program as a refusal does, and as a break where its line is not all told: where the device has failed, or the line
+-- of want of memory stands in its place. Any other trouble ends it as a break.
+abbrev pub EndsBy : Type 0 → Type 0 → Trouble → Status → Type 0
+EndsBy Failed ToldWant (File f) s = (s ≡ Refused) ⊎ ((s ≡ Broken) × (Failed ⊎ ToldWant))
+EndsBy Failed ToldWant _ s = s ≡ Broken

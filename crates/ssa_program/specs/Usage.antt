@@ -15,7 +15,8 @@ module _ (Replies Person : Text → Type 0) where
   TellsUsage (Refused text) = Person (string_bytes text)
   TellsUsage OutOfMemory = Replies (out_of_memory_text ++ line_feed ∷ [])
 
-abbrev pub EndsByUsage : words.Usage → Status → Type 0
-EndsByUsage (Asked text) s = (s ≡ Done) ⊎ (s ≡ Broken)
-EndsByUsage (Refused text) s = s ≡ Usage
-EndsByUsage OutOfMemory s = s ≡ Broken
+-- help that is not all printed ends the program as a break, where the device has failed
+abbrev pub EndsByUsage : Type 0 → words.Usage → Status → Type 0
+EndsByUsage Failed (Asked text) s = (s ≡ Done) ⊎ ((s ≡ Broken) × Failed)
+EndsByUsage Failed (Refused text) s = s ≡ Usage
+EndsByUsage Failed OutOfMemory s = s ≡ Broken

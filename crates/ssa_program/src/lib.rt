@@ -11,8 +11,11 @@
 #![tactic(auto)]
 
 pub mod answer;
+mod changing;
 pub mod draft;
 pub mod files;
+mod holding;
+mod making;
 mod names;
 pub mod notes;
 pub mod perform;

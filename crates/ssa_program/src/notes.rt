@@ -1,4 +1,5 @@
 //! Where a refusal is: lines for people, beside its fault line.
+ghost use Rattle.ssa_program.specs.Telling.{IsNoted};
 
 use crate::names::named_line;
 use ssa_answers::asked::{Asked, AskedFault, MOST_INPUT_BYTES, command_of};
@@ -39,9 +40,15 @@ impl Notes {
     }
 
     /// Tells the lines, where there are some. What the device does not take is lost.
-    pub fn tell<E: Sink>(&self, errors: &mut E) {
-        if !self.text.is_empty() {
-            let _told = write_text(errors, &self.text);
+    pub fn tell<E: Sink>(&self, errors: &mut E)
+        ensures { IsNoted E.contents E.has_failed errors.old errors.new }
+    {
+        if self.text.is_empty() {
+            return;
+        }
+        match write_text(errors, &self.text) {
+            Ok(()) => {}
+            Err(_) => {}
         }
     }
 

@@ -1,12 +1,12 @@
 //! Why a call of the program does not come to its reply, and what is told then.
-ghost use Rattle.std.specs.Prelude.{◌≡◌, ◌++◌, ◌∷◌, ◌⊎◌, [], IfOk, OnOk};
+ghost use Rattle.std.specs.Prelude.{◌≡◌, ◌++◌, ◌∷◌, ◌⊎◌, [], true, IfOk, OnOk};
 ghost use Rattle.ssa_model.specs.definitions.Json.{compact};
 ghost use Rattle.ssa_model.specs.definitions.Lines.{line_feed};
 ghost use Rattle.ssa_model.specs.definitions.Replies.{fault_json};
 ghost use Rattle.ssa_model.specs.definitions.Session.{out_of_memory_text};
-ghost use Rattle.ssa_json.specs.Devices.{AppendsPart};
 ghost use Rattle.ssa_json.specs.FaultCodes.{code_view};
 ghost use Rattle.ssa_program.specs.Names.{named_line};
+ghost use Rattle.ssa_program.specs.Telling.{IsTold};
 ghost use Rattle.ssa_program.specs.Trouble.{EndsBy, Tells, draft_line};
 ghost use Rattle.ssa_program.specs.declared.trouble.Trouble.TheVariants.{CannotPrint, File, OutOfMemory};
 
@@ -92,20 +92,24 @@ fn draft_line(alloc: Global, draft: &str, bench: &str) -> Result<Vec<u8>, AllocE
 
 // Writes a line after which the program can only end, whether the line was taken or not.
 pub(crate) fn end_by<W: Sink>(writer: &mut W, line: &[u8]) -> Status
-    ensures part { AppendsPart (W.contents writer.old) (W.contents writer.new) (line.now ++ line_feed ∷ []) }
+    ensures told { IsTold W.contents W.has_failed writer.old writer.new (line.now ++ line_feed ∷ []) }
     ensures status { result ≡ Status.Broken }
 {
-    let _told = write_line(writer, line);
-    Status::Broken
+    match write_line(writer, line) {
+        Ok(()) => Status::Broken,
+        Err(_) => Status::Broken,
+    }
 }
 
 // Writes a fault's line, after which the program can only end, whether the line was taken or not.
 pub(crate) fn end_by_fault<W: Sink>(writer: &mut W, code: FaultCode) -> Status
-    ensures part { AppendsPart (W.contents writer.old) (W.contents writer.new) (compact (fault_json (code_view code)) ++ line_feed ∷ []) }
+    ensures told { IsTold W.contents W.has_failed writer.old writer.new (compact (fault_json (code_view code)) ++ line_feed ∷ []) }
     ensures status { result ≡ Status.Broken }
 {
-    let _told = write_fault(writer, code);
-    Status::Broken
+    match write_fault(writer, code) {
+        Ok(()) => Status::Broken,
+        Err(_) => Status::Broken,
+    }
 }
 
 // Tells a person of a file by its name.
@@ -117,8 +121,8 @@ fn end_by_name<W: Sink, E: Sink>(
     writer: &mut W,
     errors: &mut E,
 ) -> Status
-    ensures told { (AppendsPart (E.contents errors.old) (E.contents errors.new) (named_line before.now name.now after.now ++ line_feed ∷ []) × (writer.new ≡ writer.old))
-        ⊎ (AppendsPart (W.contents writer.old) (W.contents writer.new) (out_of_memory_text ++ line_feed ∷ []) × (errors.new ≡ errors.old)) }
+    ensures told { (IsTold E.contents E.has_failed errors.old errors.new (named_line before.now name.now after.now ++ line_feed ∷ []) × (writer.new ≡ writer.old))
+        ⊎ (IsTold W.contents W.has_failed writer.old writer.new (out_of_memory_text ++ line_feed ∷ []) × (errors.new ≡ errors.old)) }
     ensures status { result ≡ Status.Broken }
 {
     match named_line(alloc, before, name, after) {
@@ -135,8 +139,8 @@ fn end_by_draft<W: Sink, E: Sink>(
     writer: &mut W,
     errors: &mut E,
 ) -> Status
-    ensures told { (AppendsPart (E.contents errors.old) (E.contents errors.new) (draft_line draft.now bench.now ++ line_feed ∷ []) × (writer.new ≡ writer.old))
-        ⊎ (AppendsPart (W.contents writer.old) (W.contents writer.new) (out_of_memory_text ++ line_feed ∷ []) × (errors.new ≡ errors.old)) }
+    ensures told { (IsTold E.contents E.has_failed errors.old errors.new (draft_line draft.now bench.now ++ line_feed ∷ []) × (writer.new ≡ writer.old))
+        ⊎ (IsTold W.contents W.has_failed writer.old writer.new (out_of_memory_text ++ line_feed ∷ []) × (errors.new ≡ errors.old)) }
     ensures status { result ≡ Status.Broken }
 {
     match draft_line(alloc, draft, bench) {
@@ -153,10 +157,12 @@ pub fn tell_trouble<W: Sink, E: Sink>(
     writer: &mut W,
     errors: &mut E,
 ) -> Status
-    // Of the line a beginning is written, or all of it, and nothing to the other device.
-    ensures told { Tells (λ line. AppendsPart (W.contents writer.old) (W.contents writer.new) (line ++ line_feed ∷ []) × (errors.new ≡ errors.old))
-        (λ line. AppendsPart (E.contents errors.old) (E.contents errors.new) (line ++ line_feed ∷ []) × (writer.new ≡ writer.old)) trouble.now }
-    ensures status { EndsBy trouble.now result }
+    // All of the line is written, or the device has failed, and nothing to the other device.
+    ensures told { Tells (λ line. IsTold W.contents W.has_failed writer.old writer.new (line ++ line_feed ∷ []) × (errors.new ≡ errors.old))
+        (λ line. IsTold E.contents E.has_failed errors.old errors.new (line ++ line_feed ∷ []) × (writer.new ≡ writer.old))
+        ((writer.new ≡ writer.old) × (errors.new ≡ errors.old)) trouble.now }
+    ensures status { EndsBy (W.has_failed writer.new ≡ true) (IsTold W.contents W.has_failed writer.old writer.new (out_of_memory_text ++ line_feed ∷ []))
+        trouble.now result }
 {
     match trouble {
         Trouble::CannotRead(name) => {

@@ -1,6 +1,6 @@
 //! What is told where the words are no call.
-ghost use Rattle.std.specs.Prelude.{◌≡◌};
-ghost use Rattle.ssa_json.specs.Devices.{AppendsPart};
+ghost use Rattle.std.specs.Prelude.{◌≡◌, true};
+ghost use Rattle.ssa_program.specs.Telling.{IsTold};
 ghost use Rattle.ssa_program.specs.Usage.{EndsByUsage, TellsUsage};
 
 use crate::status::Status;
@@ -16,10 +16,10 @@ pub const NOT_UTF8: &str =
 
 /// Prints the text that the words ask for, or tells a person why they are no call; and gives the status.
 pub fn tell_usage<W: Sink, E: Sink>(usage: &Usage, writer: &mut W, errors: &mut E) -> Status
-    // Of the text a beginning is written, or all of it, and nothing to the other device.
-    ensures told { TellsUsage (λ text. AppendsPart (W.contents writer.old) (W.contents writer.new) text × (errors.new ≡ errors.old))
-        (λ text. AppendsPart (E.contents errors.old) (E.contents errors.new) text × (writer.new ≡ writer.old)) usage.now }
-    ensures status { EndsByUsage usage.now result }
+    // All of the text is written, or the device has failed, and nothing to the other device.
+    ensures told { TellsUsage (λ text. IsTold W.contents W.has_failed writer.old writer.new text × (errors.new ≡ errors.old))
+        (λ text. IsTold E.contents E.has_failed errors.old errors.new text × (writer.new ≡ writer.old)) usage.now }
+    ensures status { EndsByUsage (W.has_failed writer.new ≡ true) usage.now result }
 {
     match usage {
         Usage::Asked { text } => match write_text(writer, text.as_bytes()) {
@@ -33,9 +33,11 @@ pub fn tell_usage<W: Sink, E: Sink>(usage: &Usage, writer: &mut W, errors: &mut 
 
 /// Tells a person why the words are no call.
 pub fn refuse_words<E: Sink>(errors: &mut E, text: &str) -> Status
-    ensures told { AppendsPart (E.contents errors.old) (E.contents errors.new) text.now }
+    ensures told { IsTold E.contents E.has_failed errors.old errors.new text.now }
     ensures status { result ≡ Status.Usage }
 {
-    let _told = write_text(errors, text.as_bytes());
-    Status::Usage
+    match write_text(errors, text.as_bytes()) {
+        Ok(()) => Status::Usage,
+        Err(_) => Status::Usage,
+    }
 }

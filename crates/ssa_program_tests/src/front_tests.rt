@@ -1,4 +1,5 @@
 //! The examples on the first pages of the crates below, as `tools/fronts` finds them there.
+use ssa_disk::{Disk, OfFiles};
 use ssa_explain::push_members;
 use ssa_program::Status;
 use ssa_session::Ending;
@@ -25,5 +26,13 @@ fn ssa_explain_example(rt: HostRuntime) -> Result<(), Fail> {
 fn ssa_program_example(rt: HostRuntime) -> Result<(), Fail> {
     assert_eq!(rt; Status::Done.code(), 0);
     assert_eq!(rt; Status::from(Ending::Refused).code(), 1);
+    Ok(())
+}
+
+#[test]
+fn ssa_disk_example(rt: HostRuntime) -> Result<(), Fail> {
+    let disk = OfFiles::new(&rt);
+    let place = disk.find(rt.alloc(), "no_such.bench")?;
+    assert!(rt; place.found.is_none());
     Ok(())
 }

@@ -1,5 +1,6 @@
 //! The words of the program, and its devices.
 
+use ssa_disk::files::OfFiles;
 use ssa_json::reader::OfReader;
 use ssa_json::sink::OfWriter;
 use ssa_program::perform::perform;
@@ -50,7 +51,17 @@ pub fn run(rt: &HostRuntime) -> u8 {
         Err(_) => return tell_usage(&Usage::OutOfMemory, &mut writer, &mut errors).code(),
     };
     match read_words(rt.alloc(), &words) {
-        Ok(call) => perform(rt, &call, &mut reader, &mut writer, &mut errors),
+        Ok(call) => {
+            let mut disk = OfFiles::new(rt);
+            perform(
+                &mut disk,
+                rt.alloc(),
+                &call,
+                &mut reader,
+                &mut writer,
+                &mut errors,
+            )
+        }
         Err(usage) => tell_usage(&usage, &mut writer, &mut errors).code(),
     }
 }
