@@ -1,8 +1,6 @@
 -- The decisions of an Apply and of an Update, over what was computed.
-use Rattle.std.proofs.Common.{◌≡◌, ℕ, ◌-◌, ◌^◌, min, ◌<◌, ◌≤◌, List, [], ◌∷◌, length, Bool, true, false, not, ◌||◌, nat_lt, refl, sym, ap, subst, ◌∙◌, arith}
-use Rattle.std.proofs.Math.Dec.{ltb}
+use Rattle.std.proofs.Common.{◌≡◌, ℕ, ◌-◌, ◌^◌, min, ◌<◌, ◌≤◌, List, [], ◌∷◌, length, Bool, true, false, not, ◌||◌, nat_lt, refl, sym, ap, ◌∙◌, arith}
 use Rattle.std.proofs.Math.Nat.{min-eq_left, min-eq_right}
-use Rattle.std.proofs.lemmas.Bool.{ltb-false, ltb-true}
 use Rattle.std.proofs.lemmas.Bool.Decides.{nat_tests}
 use Rattle.std.specs.declared.alloc.Global.{Global}
 use Rattle.std.specs.Prelude.{Option, Some, None, Result, Ok, Err, Vec, if◌then◌else◌}
@@ -22,7 +20,7 @@ use Rattle.ssa_merge.specs.declared.change.Change.{Change}
 use Rattle.ssa_merge.specs.declared.manager.ManagerKey.{ManagerKey as Key}
 use Rattle.ssa_merge.specs.declared.plan.Refusal.{Refusal}
 use Rattle.ssa_merge.specs.declared.plan.Refusal.TheVariants.{Conflict, TooManyPaths, TooManyManagers, OutOfMemory}
-use Rattle.ssa_model.proofs.Basics.{at_most, yes_no}
+use Rattle.ssa_model.proofs.Basics.{at_most}
 
 more : (m n : ℕ) → m < n → nat_lt m n ≡ true
 more m n h = grind (arith, nat_tests)

@@ -1,7 +1,7 @@
 -- A body over another: its places and its parts are told by its places, as those of the two are.
 use Rattle.std.proofs.Common.{◌≡◌, List, [], ◌∷◌, ◌++◌, Bool, true, false, not, ◌&&◌, ◌||◌, inl, inr, refl, sym, ap, ◌∙◌, true≢false}
 use Rattle.std.specs.Cmp.{both_ways, first_so}
-use Rattle.std.specs.Prelude.{filter, option_map, is_some, if◌then◌else◌, Option, Some, None}
+use Rattle.std.specs.Prelude.{option_map, is_some, if◌then◌else◌, Option, Some, None}
 use Rattle.ssa_model.specs.definitions.Path.{Element, Path, is_root, same_element, same_path, under}
 use Rattle.ssa_model.specs.definitions.PathMap.{PathSet, empty, get, has, has_at_or_below, insert}
 use Rattle.ssa_model.specs.definitions.Kind.{is_among}

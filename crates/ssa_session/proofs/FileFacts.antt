@@ -1,18 +1,14 @@
 -- Faults of files, from the faults of their parts.
-use Rattle.std.proofs.Common.{ℕ, ◌≡◌, List, Bool, true, false, refl, ap, ◌∙◌, subst}
-use Rattle.std.specs.Prelude.{Result, Ok, Err, if◌then◌else◌, Option}
-use Rattle.ssa_model.specs.definitions.Objects.{Identity}
-use Rattle.ssa_model.specs.definitions.Json.{Text, Json, object, list, scalar}
+use Rattle.std.proofs.Common.{ℕ, ◌≡◌, refl, ap, ◌∙◌}
+use Rattle.std.specs.Prelude.{Result, Ok, Err}
+use Rattle.ssa_model.specs.definitions.Json.{Text, Json, object}
 use Rattle.ssa_model.specs.definitions.Kind.{Kind}
-use Rattle.ssa_model.specs.definitions.Limits.{most_past}
 use Rattle.ssa_model.specs.definitions.Schema as schemas
 use Rattle.ssa_model.specs.definitions.Schema.{read_schema, schema_keyword, schema_shape, schema_keys, schema_depth, Schema}
-use Rattle.ssa_model.specs.definitions.Operations.{State}
 use Rattle.ssa_model.specs.definitions.History.{Bench}
 use Rattle.ssa_model.specs.definitions.Answers as answers
 use Rattle.ssa_model.specs.definitions.Files as model
-use Rattle.ssa_model.specs.definitions.Files.{bench_of_file, bench_with_file, bench_or_fault, of_object, of_schema, schema_of, schema_of_file, value_of_file}
-use Rattle.ssa_model.specs.laws.Headline.{IsAlone}
+use Rattle.ssa_model.specs.definitions.Files.{bench_with_file, bench_or_fault, of_object, of_schema, schema_of, schema_of_file, value_of_file}
 use Rattle.ssa_json.specs.Readings.{readings}
 use Rattle.ssa_schema.specs.Schemas.{Faults}
 use Rattle.ssa_schema.specs.declared.fault.SchemaFault.{SchemaFault}
@@ -52,35 +48,3 @@ pub object-refused : (f : engine.Fault) (depth : ℕ) (s : Schema) (bytes : Text
     → IsGivenFile {A = Bench} (Err (object_fault f)) (bench_with_file readings depth s bytes)
 object-refused bench.OutOfMemory depth s bytes v is h = tt
 object-refused _ depth s bytes v is h = (of_object h.0, by-object depth s bytes v _ is h.1, (h.0, refl, h.2))
-
--- ---- a bench that is made has one state
-
-by-state : (s : Schema) (i : Identity) (r : Result State answers.Fault) (b : Bench) → answers.with_lone_state most_past s i r ≡ Ok b → IsAlone b.timeline
-by-state s i (Ok state) b is =
-    let made : answers.lone_bench most_past s i state ≡ b = cc in
-    subst (λ x. IsAlone x.timeline) made (refl, refl)
-by-state s i (Err f) b is = absurd cc
-
-by-name : (named : Bool) (s : Schema) (i : Identity) (r : Result State answers.Fault) (b : Bench)
-    → (if named then Err answers.identity_fault else answers.with_lone_state most_past s i r) ≡ Ok b → IsAlone b.timeline
-by-name true s i r b is = absurd cc
-by-name false s i r b is = by-state s i r b is
-
-made-alone : (s : Schema) (v : Json) (b : Bench) → answers.bench_of readings s v ≡ Ok b → IsAlone b.timeline
-made-alone s (object ms) b is = by-name _ s _ _ b is
-made-alone s (list vs) b is = absurd cc
-made-alone s (scalar x) b is = absurd cc
-
-or-fault : (s : Schema) (v : Json) (r : Result Bench answers.Fault) (b : Bench) → answers.bench_of readings s v ≡ r → bench_or_fault r ≡ Ok b
-    → IsAlone b.timeline
-or-fault s v (Ok made) b e is = let same : made ≡ b = cc in made-alone s v b (e ∙ ap Ok same)
-or-fault s v (Err f) b e is = absurd cc
-
--- a bench that a file makes has one state and no commands
-pub file-alone : (s : Schema) (bytes : Text) (b : Bench) → bench_of_file readings s bytes ≡ Ok b → IsAlone b.timeline
-file-alone s bytes b is = by (value_of_file readings bytes) is
-  where
-    by : (r : Result Json model.FileFault) → ◌≡◌ {A = Result Bench model.FileFault}
-        (elim r [ Ok w ↦ bench_or_fault (answers.bench_of readings s w) | Err f ↦ Err f ]) (Ok b) → IsAlone b.timeline
-    by (Ok v) h = or-fault s v (answers.bench_of readings s v) b refl h
-    by (Err f) h = absurd cc

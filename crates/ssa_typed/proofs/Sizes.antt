@@ -1,6 +1,5 @@
 -- How many places a tree has: as many as its body has paths, since its rows have each path once.
 use Rattle.std.proofs.Common.{◌≡◌, ℕ, zero, suc, ◌+◌, ◌-◌, ◌^◌, ◌<◌, ◌≤◌, List, [], ◌∷◌, ◌++◌, length, get_or, take, Bool, true, false, not, ◌&&◌, cond, Some, None, refl, ap, ◌∙◌, min, arith, rules, length-append}
-use Rattle.std.proofs.lemmas.List.{take_all}
 use Rattle.std.specs.Prelude.{is_some}
 use Rattle.std.specs.List.{list_any}
 use Rattle.std.specs.FinMap.Entries.{length-put}
@@ -67,16 +66,6 @@ module _ (cs : List (Elem × Node)) (i : ℕ) (c : Elem × Node) (count : ℕ) (
       let long = longer in
       let level = length-level c.1 in
       omega arith
-
--- before the first child each child itself is counted
-pub count-none : (cs : List (Elem × Node)) → length cs ≤ 2 ^ 64 - 1 → IsCount cs 0 (length cs)
-count-none cs fits = omega arith
-
--- behind the last one all their places are
-pub count-all : (cs : List (Elem × Node)) (i count : ℕ) → length cs ≤ i → IsCount cs i count → count ≡ min (length (rows_below cs)) (2 ^ 64 - 1)
-count-all cs i count done h =
-    let all : length (rows_below (take i cs)) ≡ length (rows_below cs) = ap (λ l. length (rows_below l)) (take_all i cs done) in
-    omega arith
 
 -- ---- each path once
 

@@ -1,5 +1,5 @@
 -- Trees of values of each kind.
-use Rattle.std.proofs.Common.{◌≡◌, ℕ, ◌≤◌, List, [], ◌∷◌, ◌++◌, Bool, true, false, cond, Box, String, Global, string_bytes, nat_cmp, refl, sym, ap, ◌∙◌, subst, subst₂, arith, append-nil, true≢false, rules, is_some}
+use Rattle.std.proofs.Common.{◌≡◌, ℕ, ◌≤◌, List, [], ◌∷◌, Bool, true, false, cond, Box, String, Global, string_bytes, nat_cmp, refl, sym, ap, ◌∙◌, subst, subst₂, arith, append-nil, true≢false, rules, is_some}
 use Rattle.std.specs.Prelude.{Option, None, Some, if◌then◌else◌, option_map}
 use Rattle.std.specs.Borrow.{Bor}
 use Rattle.std.specs.Map.{lookup, values_of}
@@ -80,20 +80,11 @@ pub known-is : (n : Text) (fs : model.Fields) (j k : model.Kind) → model.kind_
 unfolding known
 known-is n fs j k e f = ap (λ o. known o j) (sym e ∙ f)
 
--- a name that has a kind does not lack one
-pub known-there : (n : Text) (fs : model.Fields) (k : model.Kind) → model.kind_of n fs ≡ Some k → model.kind_of n fs ≡ None → ⊥
-known-there n fs k e f = true≢false (ap is_some (sym e ∙ f))
-
 -- ---- the places of a member
 
 -- a member whose kind is known has the places of its value
 pub known-places : (n : Text) (fs : model.Fields) (v : Json) (k : model.Kind) (p : Path) → model.kind_of n fs ≡ Some k → member_places fs n v p ≡ places k v p
 known-places n fs v k p e = ap (λ o. elim o [ None ↦ [] | Some j ↦ places j v p ]) e
-
--- the places of a member, none where its kind is unknown, are told in one way
-pub member-places : (fs : model.Fields) (n : Text) (v : Json) (p : Path) (o : Option model.Kind)
-    → ◌≡◌ {A = List Row} (elim o [ None ↦ [] | Some k ↦ places k v (p ++ field n ∷ []) ]) (elim o [ None ↦ [] | Some k ↦ places k v (p ++ field n ∷ []) ])
-member-places fs n v p o = refl
 
 -- ---- branches
 
