@@ -1,0 +1,143 @@
+//! A word to a person, while a session lasts, that its bench has become longer than a file may be.
+ghost use Rattle.std.specs.Prelude.{◌≡◌, ◌++◌, ◌∷◌, [], ◌⊎◌, true, false, None, Ok, Err, ◌≤◌, length};
+ghost use Rattle.ssa_model.specs.definitions.Lines.{line_feed};
+ghost use Rattle.ssa_program.specs.Telling.{IsTold};
+ghost use Rattle.ssa_program.specs.Watching.{GoesOn, goes_on, stays, too_long_line};
+
+use crate::names::named_line;
+use ssa_bench::bench::Bench;
+use ssa_json::sink::Sink;
+use ssa_json::source::DeviceFault;
+use ssa_lines::line::Line;
+use ssa_lines::saving::{MOST_FILE_BYTES, SaveFault};
+use ssa_lines::write_line::write_line;
+use ssa_session::watcher::Watcher;
+use std::alloc::{AllocError, Global};
+
+// The text is not measured before the lines have so many bytes.
+const FEW_BYTES: usize = 1_048_576;
+
+// A line counts for so many bytes more than it has.
+const LINE_WEIGHT: usize = 64;
+
+// Counts the bytes that it is given.
+#[derive(Drop)]
+struct Counter {
+    count: usize,
+    is_handed_on: bool,
+}
+
+impl Sink for Counter {
+    ghost contents = { λ c. None };
+
+    ghost has_failed = { λ c. false };
+
+    ghost is_handed_on = { λ c. c.is_handed_on };
+
+    fn write(&mut self, bytes: &[u8]) -> Result<usize, DeviceFault> {
+        self.count = self.count.saturating_add(bytes.len());
+        self.is_handed_on = false;
+        Ok(bytes.len())
+    }
+
+    fn flush(&mut self) -> Result<(), DeviceFault> {
+        self.is_handed_on = true;
+        Ok(())
+    }
+}
+
+/// Looks on at a session, and tells a person once that the bench's text has become longer than a file may be.
+///
+/// The text is made anew to be measured. So that is done when the lines since the last time have a megabyte, and as many bytes as
+/// half the text and half of what it could then still grow by. Where records are longer than their lines, the word comes later.
+#[derive(Drop)]
+pub(crate) struct LengthWatch<'a, E> {
+    errors: &'a mut E,
+    name: &'a str,
+    // What the lines since the last measuring weigh, and with how much the next one is due.
+    weight: usize,
+    due: usize,
+    is_told: bool,
+}
+
+impl<'a, E: Sink> LengthWatch<'a, E> {
+    /// A watch on the bench of this name, which has told nothing.
+    pub(crate) fn new(errors: &'a mut E, name: &'a str) -> LengthWatch<'a, E>
+        ensures device { result.errors.ghost_name ≡ errors.entry.ghost_name }
+        ensures now { result.errors.now ≡ errors.old }
+        ensures name { result.name ≡ name }
+        ensures untold { result.is_told ≡ false }
+    {
+        LengthWatch {
+            errors,
+            name,
+            weight: 0,
+            due: FEW_BYTES,
+            is_told: false,
+        }
+    }
+}
+
+// What a line weighs.
+fn weight_of(line: &Line) -> usize {
+    match line {
+        Line::Kept(bytes) => bytes.len().saturating_add(LINE_WEIGHT),
+        Line::TooLong | Line::OutOfMemory => LINE_WEIGHT,
+    }
+}
+
+// How many bytes the bench's text has, or none where they are more than a file may have.
+fn text_len(alloc: Global, bench: &Bench) -> Result<Option<usize>, AllocError> {
+    let mut counter = Counter {
+        count: 0,
+        is_handed_on: true,
+    };
+    match bench.save(alloc, &mut counter) {
+        Ok(()) => Ok(Some(counter.count)),
+        Err(SaveFault::BenchTooLong) => Ok(None),
+        Err(_) => Err(AllocError),
+    }
+}
+
+// With what weight of lines a text of so many bytes is to be measured again.
+fn due_after(len: usize) -> usize {
+    let room = MOST_FILE_BYTES.saturating_sub(len);
+    FEW_BYTES.max(len.max(room) / 2)
+}
+
+// Tells the line, or nothing where memory runs out.
+fn tell_too_long<E: Sink>(alloc: Global, name: &str, errors: &mut E) -> bool
+    ensures told { result ≡ true → IsTold E.contents E.has_failed errors.old errors.new (too_long_line name.now ++ line_feed ∷ []) }
+    ensures quiet { result ≡ false → errors.new ≡ errors.old }
+{
+    let after =
+        " has become longer than a bench's file may be, 67,108,864 bytes: as it stands, the session will not be saved";
+    match named_line(alloc, "ssabench: ", name, after) {
+        Ok(line) => match write_line(errors, &line) {
+            Ok(()) => true,
+            Err(_) => true,
+        },
+        Err(_) => false,
+    }
+}
+
+impl<'a, E: Sink> Watcher<Bench> for LengthWatch<'a, E> {
+    ghost goes = { GoesOn E.contents E.has_failed };
+
+    fn look(&mut self, alloc: Global, bench: &Bench, line: &Line) {
+        self.weight = self.weight.saturating_add(weight_of(line));
+        if self.is_told || self.weight < self.due {
+            return;
+        }
+        self.weight = 0;
+        match text_len(alloc, bench) {
+            Ok(Some(len)) => self.due = due_after(len),
+            Ok(None) => self.is_told = tell_too_long(alloc, self.name, self.errors),
+            Err(_) => {}
+        }
+    }
+
+    ghost stays = { stays E.contents E.has_failed };
+
+    ghost goes_on = { goes_on E.contents E.has_failed };
+}
