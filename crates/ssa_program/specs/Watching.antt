@@ -12,7 +12,7 @@ use Rattle.ssa_program.specs.declared.watch.LengthWatch.{LengthWatch}
 -- that the bench of this name has become longer than a file may be
 abbrev pub too_long_line : Text → Text
 too_long_line bench = named_line (codes "ssabench: ") bench
-    (codes " has become longer than a bench's file may be, 67,108,864 bytes: as it stands, the session will not be saved")
+    (codes " would have more than 67108864 bytes: as it stands, this session will not be saved")
 
 -- The device for people, before and after.
 module _ {E : Type 0} (told : E → Option Text) (is_deaf : E → Bool) where

@@ -111,7 +111,7 @@ fn tell_too_long<E: Sink>(alloc: Global, name: &str, errors: &mut E) -> bool
     ensures quiet { result ≡ false → errors.new ≡ errors.old }
 {
     let after =
-        " has become longer than a bench's file may be, 67,108,864 bytes: as it stands, the session will not be saved";
+        " would have more than 67108864 bytes: as it stands, this session will not be saved";
     match named_line(alloc, "ssabench: ", name, after) {
         Ok(line) => match write_line(errors, &line) {
             Ok(()) => true,
