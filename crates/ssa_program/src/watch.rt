@@ -49,7 +49,7 @@ impl Sink for Counter {
 /// Looks on at a session, and tells a person once that the bench's text has become longer than a file may be.
 ///
 /// The text is made anew to be measured. So that is done when the lines since the last time have a megabyte, and as many bytes as
-/// half the text and half of what it could then still grow by. Where records are longer than their lines, the word comes later.
+/// a quarter of the text and half of what it could then still grow by. Where records are longer than their lines, the word comes later.
 #[derive(Drop)]
 pub(crate) struct LengthWatch<'a, E> {
     errors: &'a mut E,
@@ -102,7 +102,7 @@ fn text_len(alloc: Global, bench: &Bench) -> Result<Option<usize>, AllocError> {
 // With what weight of lines a text of so many bytes is to be measured again.
 fn due_after(len: usize) -> usize {
     let room = MOST_FILE_BYTES.saturating_sub(len);
-    FEW_BYTES.max(len.max(room) / 2)
+    FEW_BYTES.max(room / 2).max(len / 4)
 }
 
 // Tells the line, or nothing where memory runs out.
