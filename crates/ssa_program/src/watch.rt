@@ -48,13 +48,15 @@ impl Sink for Counter {
 
 /// Looks on at a session, and tells a person once that the bench's text has become longer than a file may be.
 ///
-/// The text is made anew to be measured. So that is done when the lines since the last time have a megabyte, and as many bytes as
-/// a quarter of the text and half of what it could then still grow by. Where records are longer than their lines, the word comes later.
+/// The text is made anew to be measured. So that is done when the lines since the last time have a megabyte, and half as many bytes
+/// as the text could then still grow by; more and more seldom while it does not grow with the lines. Where records are longer than
+/// their lines, the word comes later.
 #[derive(Drop)]
 pub(crate) struct LengthWatch<'a, E> {
     errors: &'a mut E,
     name: &'a str,
-    // What the lines since the last measuring weigh, and with how much the next one is due.
+    // How long the text was when it was measured last, what the lines weigh since, and with how much it is due again.
+    len: usize,
     weight: usize,
     due: usize,
     is_told: bool,
@@ -71,6 +73,7 @@ impl<'a, E: Sink> LengthWatch<'a, E> {
         LengthWatch {
             errors,
             name,
+            len: 0,
             weight: 0,
             due: FEW_BYTES,
             is_told: false,
@@ -99,10 +102,19 @@ fn text_len(alloc: Global, bench: &Bench) -> Result<Option<usize>, AllocError> {
     }
 }
 
-// With what weight of lines a text of so many bytes is to be measured again.
+// Whether the text has grown by half of what its lines weigh, at least.
+fn has_grown(len: usize, before: usize, weight: usize) -> bool {
+    len.saturating_sub(before) >= weight / 2
+}
+
+// With what weight of lines a text of so many bytes is to be measured again, where it grows with them.
 fn due_after(len: usize) -> usize {
-    let room = MOST_FILE_BYTES.saturating_sub(len);
-    FEW_BYTES.max(room / 2).max(len / 4)
+    FEW_BYTES.max(MOST_FILE_BYTES.saturating_sub(len) / 2)
+}
+
+// The same where it does not.
+fn due_later(due: usize) -> usize {
+    due.saturating_mul(2).min(MOST_FILE_BYTES / 2)
 }
 
 // Tells the line, or nothing where memory runs out.
@@ -129,12 +141,19 @@ impl<'a, E: Sink> Watcher<Bench> for LengthWatch<'a, E> {
         if self.is_told || self.weight < self.due {
             return;
         }
-        self.weight = 0;
         match text_len(alloc, bench) {
-            Ok(Some(len)) => self.due = due_after(len),
+            Ok(Some(len)) => {
+                self.due = if has_grown(len, self.len, self.weight) {
+                    due_after(len)
+                } else {
+                    due_later(self.due)
+                };
+                self.len = len;
+            }
             Ok(None) => self.is_told = tell_too_long(alloc, self.name, self.errors),
             Err(_) => {}
         }
+        self.weight = 0;
     }
 
     ghost stays = { stays E.contents E.has_failed };
