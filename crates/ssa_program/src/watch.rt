@@ -67,7 +67,7 @@ impl<'a, E: Sink> LengthWatch<'a, E> {
     pub(crate) fn new(errors: &'a mut E, name: &'a str) -> LengthWatch<'a, E>
         ensures device { result.errors.ghost_name ≡ errors.entry.ghost_name }
         ensures now { result.errors.now ≡ errors.old }
-        ensures name { result.name ≡ name }
+        ensures name { result.name ≡ name.entry }
         ensures untold { result.is_told ≡ false }
     {
         LengthWatch {

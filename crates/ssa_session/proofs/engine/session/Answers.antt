@@ -40,4 +40,4 @@ returns-in-EndOfInput-clause-ok g c =
     AnswersAll-last _ _ _ _ _ _ _ _ _ _ _ _ c.loop-end.invariant.answered taken some (c.in-Ok-answer_line-2.ensures.ok taken.text taken.held)
 
 pub returns-in-EndOfInput-clause-watched : goal.returns-in-EndOfInput-clause-watched
-returns-in-EndOfInput-clause-watched g c = g.met.T.Watcher.goes_on _ _ _ c.loop-end.invariant.watched c.look-2.ensures
+returns-in-EndOfInput-clause-watched g c = g.met.T.Watcher.goes_on _ _ _ c.loop-end.invariant.watched c.look-in-EndOfInput.ensures
