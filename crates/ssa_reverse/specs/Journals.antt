@@ -24,9 +24,13 @@ HoldsSame j k = (past_of j ≡ past_of k) × (future_of j ≡ future_of k)
 abbrev pub leads : {T D : Type 0} → (g : Ghosts T D) → D → g.Meaning → g.Meaning
 leads g d v = g.target (g.steps d) v
 
--- a turn of a value of this meaning by the record is allowed
-abbrev pub FitsValue : {T D : Type 0} → (g : Ghosts T D) → D → g.Meaning → Type 0
-FitsValue g d v = g.takes (g.steps d) v (leads g d v) × g.has_room d v
+-- a turn of a value of this meaning, with this room, by the record is allowed
+abbrev pub FitsValue : {T D : Type 0} → (g : Ghosts T D) → D → g.Meaning → g.Room → Type 0
+FitsValue g d v w = g.takes (g.steps d) v (leads g d v) × g.has_room d v w
+
+-- records fit one after the other, from a value of this meaning with this room
+abbrev pub FitAlong : {T D L : Type 0} → (g : Ghosts T D) → List (D × L) → g.Meaning → g.Room → Type 0
+FitAlong g rs v w = AllFit (FitsValue g) (leads g) g.left rs v w
 
 abbrev pub timeline_of : {T L D : Type 0} {g : Ghosts T D} → Journal T L D g → g.Meaning → Timeline g.Meaning L
 timeline_of {g = g} j v = record {
@@ -35,7 +39,7 @@ timeline_of {g = g} j v = record {
   future = steps_along (leads g) (future_of j) v;
 }
 
--- the journal was last moved with a value of this meaning beside it: from there its records fit one after the other, both ways
-pub record GoesWith {T L D : Type 0} {g : Ghosts T D} (j : Journal T L D g) (v : g.Meaning) : Type 0 where
-  pub back : AllFit (FitsValue g) (leads g) (reverse (past_of j)) v
-  pub forward : AllFit (FitsValue g) (leads g) (future_of j) v
+-- the journal was last moved with a value of this meaning beside it, which has this room: from there its records fit one after the other, both ways
+pub record GoesWith {T L D : Type 0} {g : Ghosts T D} (j : Journal T L D g) (v : g.Meaning) (w : g.Room) : Type 0 where
+  pub back : FitAlong g (reverse (past_of j)) v w
+  pub forward : FitAlong g (future_of j) v w

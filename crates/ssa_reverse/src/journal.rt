@@ -26,7 +26,7 @@ impl<T: Reversible, L: Drop> Journal<T, L> {
     pub fn new(alloc: Global) -> Self
         ensures past { past_of result ≡ [] }
         ensures future { future_of result ≡ [] }
-        ensures whole { (v : T.Meaning) → GoesWith result v }
+        ensures whole { (v : T.Meaning) (w : T.Room) → GoesWith result v w }
     {
         Journal {
             past: Vec::new(alloc),
@@ -65,16 +65,17 @@ impl<T: Reversible, L: Drop> Journal<T, L> {
     /// Takes the value to where the record leads, and keeps the record that leads back under the
     /// label. The records of the future are dropped. The record comes in the box in which it stays.
     ///
-    /// All memory that a later undo or redo wants for the journal itself is taken here. Where it
-    /// is refused, or the turn is, the record is dropped and all else is as it was.
+    /// All memory that a later undo or redo wants is taken here: for the journal itself, and room in the
+    /// value. Where it is refused, or the turn is, the record is dropped, the value means what it meant,
+    /// and all other records are as they were.
     pub fn record(&mut self, value: &mut T, entry: Box<(T::Delta, L)>) -> Result<(), AllocError>
-        requires whole { GoesWith self.old (T.meaning value.old) }
+        requires whole { GoesWith self.old (T.meaning value.old) (T.room value.old) }
         requires fits { T.takes (T.steps entry.value.0) (T.meaning value.old) (T.target (T.steps entry.value.0) (T.meaning value.old)) }
-        requires room { T.has_room entry.value.0 (T.meaning value.old) }
-        ensures whole { GoesWith self.new (T.meaning value.new) }
+        requires carries { T.carries entry.value.0 (T.meaning value.old) }
+        ensures whole { GoesWith self.new (T.meaning value.new) (T.room value.new) }
         ensures ok { OnOk result (timeline_of self.new (T.meaning value.new)
             ≡ recorded (timeline_of self.old (T.meaning value.old)) (T.target (T.steps entry.value.0) (T.meaning value.old)) entry.value.1) }
-        ensures err { OnErr result ((value.new ≡ value.old) × HoldsSame self.new self.old) }
+        ensures err { OnErr result ((T.meaning value.new ≡ T.meaning value.old) × HoldsSame self.new self.old) }
     {
         let places = self.past.len() + 1;
         self.past.reserve(1)?;
@@ -83,6 +84,7 @@ impl<T: Reversible, L: Drop> Journal<T, L> {
             self.future.reserve(places - waiting)?;
         }
         let mut back = entry;
+        value.make_room(&back.0)?;
         value.turn(&mut back.0)?;
         self.future.clear();
         push_within(&mut self.past, back);
@@ -93,23 +95,25 @@ impl<T: Reversible, L: Drop> Journal<T, L> {
     /// that leads forward again under the label, as the next to be redone. The record comes in the box in
     /// which it stays.
     ///
-    /// All memory that a later undo or redo wants for the journal itself is taken here. Where it
-    /// is refused, or the turn is, the record is dropped and all else is as it was.
+    /// All memory that a later undo or redo wants is taken here: for the journal itself, and room in the
+    /// value. Where it is refused, or the turn is, the record is dropped, the value means what it meant,
+    /// and all other records are as they were.
     pub fn precede(&mut self, value: &mut T, entry: Box<(T::Delta, L)>) -> Result<(), AllocError>
-        requires whole { GoesWith self.old (T.meaning value.old) }
+        requires whole { GoesWith self.old (T.meaning value.old) (T.room value.old) }
         requires first { past_of self.old ≡ [] }
         requires fits { T.takes (T.steps entry.value.0) (T.meaning value.old) (T.target (T.steps entry.value.0) (T.meaning value.old)) }
-        requires room { T.has_room entry.value.0 (T.meaning value.old) }
-        ensures whole { GoesWith self.new (T.meaning value.new) }
+        requires carries { T.carries entry.value.0 (T.meaning value.old) }
+        ensures whole { GoesWith self.new (T.meaning value.new) (T.room value.new) }
         ensures ok { OnOk result (timeline_of self.new (T.meaning value.new)
             ≡ preceded (timeline_of self.old (T.meaning value.old)) (T.target (T.steps entry.value.0) (T.meaning value.old)) entry.value.1) }
         ensures first { OnOk result (past_of self.new ≡ []) }
-        ensures err { OnErr result ((value.new ≡ value.old) × HoldsSame self.new self.old) }
+        ensures err { OnErr result ((T.meaning value.new ≡ T.meaning value.old) × HoldsSame self.new self.old) }
     {
         let places = self.future.len() + 1;
         self.future.reserve(1)?;
         self.past.reserve(places)?;
         let mut forward = entry;
+        value.make_room(&forward.0)?;
         value.turn(&mut forward.0)?;
         push_within(&mut self.future, forward);
         Ok(())
@@ -119,8 +123,8 @@ impl<T: Reversible, L: Drop> Journal<T, L> {
     ///
     /// On `Err`, which comes only where turns of such values can fail, nothing has moved.
     pub fn undo(&mut self, value: &mut T) -> Result<bool, AllocError>
-        requires whole { GoesWith self.old (T.meaning value.old) }
-        ensures whole { GoesWith self.new (T.meaning value.new) }
+        requires whole { GoesWith self.old (T.meaning value.old) (T.room value.old) }
+        ensures whole { GoesWith self.new (T.meaning value.new) (T.room value.new) }
         ensures moved { IfOk result (λ moved. IsTrue moved ↔ (0 < length (past_of self.old))) }
         ensures ok { OnOk result (timeline_of self.new (T.meaning value.new) ≡ undone (timeline_of self.old (T.meaning value.old))) }
         ensures err { OnErr result ((value.new ≡ value.old) × HoldsSame self.new self.old) }
@@ -145,8 +149,8 @@ impl<T: Reversible, L: Drop> Journal<T, L> {
     ///
     /// On `Err`, which comes only where turns of such values can fail, nothing has moved.
     pub fn redo(&mut self, value: &mut T) -> Result<bool, AllocError>
-        requires whole { GoesWith self.old (T.meaning value.old) }
-        ensures whole { GoesWith self.new (T.meaning value.new) }
+        requires whole { GoesWith self.old (T.meaning value.old) (T.room value.old) }
+        ensures whole { GoesWith self.new (T.meaning value.new) (T.room value.new) }
         ensures moved { IfOk result (λ moved. IsTrue moved ↔ (0 < length (future_of self.old))) }
         ensures ok { OnOk result (timeline_of self.new (T.meaning value.new) ≡ redone (timeline_of self.old (T.meaning value.old))) }
         ensures err { OnErr result ((value.new ≡ value.old) × HoldsSame self.new self.old) }
@@ -173,7 +177,7 @@ impl<T: Reversible, L: Drop> Journal<T, L> {
         ensures forgot { IsTrue result ↔ (0 < length (past_of self.old)) }
         ensures past { past_of self.new ≡ drop 1 (past_of self.old) }
         ensures future { future_of self.new ≡ future_of self.old }
-        ensures whole { (v : T.Meaning) → GoesWith self.old v → GoesWith self.new v }
+        ensures whole { (v : T.Meaning) (w : T.Room) → GoesWith self.old v w → GoesWith self.new v w }
     {
         if self.past.is_empty() {
             return false;

@@ -57,7 +57,21 @@ impl Reversible for LiveBody {
 
     ghost target = { carry_body };
 
-    ghost has_room = { HasBodyRoom };
+    ghost Room = { Unit {0} };
+
+    ghost room = { λ v. tt };
+
+    ghost holds = { λ w u. Unit {0} };
+
+    ghost carries = { HasBodyRoom };
+
+    ghost has_room = { λ d v w. HasBodyRoom d v };
+
+    ghost left = { λ d v w. w };
+
+    fn make_room(&mut self, _delta: &BodySteps) -> Result<(), AllocError> {
+        Ok(())
+    }
 
     fn turn(&mut self, delta: &mut BodySteps) -> Result<(), AllocError> {
         turn_recorded(&mut self.body, delta);
@@ -69,4 +83,8 @@ impl Reversible for LiveBody {
     ghost fixes_steps = { λ d e v w h k. h.1.is ∙ sym k.1.is };
 
     ghost leads_back = { λ d v w h. (turned_body d v, (h.0, (body_laws h.0 d v w h.1).2, h.3, h.2)) };
+
+    ghost served_by_more = { λ d v w u h k. h };
+
+    ghost leaves_more = { λ d v w u h k. k };
 }

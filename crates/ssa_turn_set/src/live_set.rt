@@ -50,7 +50,21 @@ impl Reversible for LiveSet {
 
     ghost target = { set_target };
 
-    ghost has_room = { HasRoom };
+    ghost Room = { Unit {0} };
+
+    ghost room = { λ v. tt };
+
+    ghost holds = { λ w u. Unit {0} };
+
+    ghost carries = { HasRoom };
+
+    ghost has_room = { λ d v w. HasRoom d v };
+
+    ghost left = { λ d v w. w };
+
+    fn make_room(&mut self, _delta: &SetDelta) -> Result<(), AllocError> {
+        Ok(())
+    }
 
     fn turn(&mut self, delta: &mut SetDelta) -> Result<(), AllocError> {
         turn_field_set(&mut self.set, delta);
@@ -62,4 +76,8 @@ impl Reversible for LiveSet {
     ghost fixes_steps = { λ c d s t h k. h.between ∙ sym k.between };
 
     ghost leads_back = { λ d s t h. (set_back d, led_back d s t h) };
+
+    ghost served_by_more = { λ d v w u h k. h };
+
+    ghost leaves_more = { λ d v w u h k. k };
 }

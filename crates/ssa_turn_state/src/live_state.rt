@@ -78,7 +78,21 @@ impl Reversible for LiveState {
 
     ghost target = { carry };
 
-    ghost has_room = { HasStateRoom };
+    ghost Room = { Unit {0} };
+
+    ghost room = { λ v. tt };
+
+    ghost holds = { λ w u. Unit {0} };
+
+    ghost carries = { HasStateRoom };
+
+    ghost has_room = { λ d v w. HasStateRoom d v };
+
+    ghost left = { λ d v w. w };
+
+    fn make_room(&mut self, _delta: &StateDelta) -> Result<(), AllocError> {
+        Ok(())
+    }
 
     fn turn(&mut self, delta: &mut StateDelta) -> Result<(), AllocError> {
         turn_state(&mut self.state, delta);
@@ -90,4 +104,8 @@ impl Reversible for LiveState {
     ghost fixes_steps = { λ d e v w h k. h.1.is ∙ sym k.1.is };
 
     ghost leads_back = { λ d v w h. (turned d v, (h.0, laws.leads_back h.0 d v w h.1)) };
+
+    ghost served_by_more = { λ d v w u h k. h };
+
+    ghost leaves_more = { λ d v w u h k. k };
 }

@@ -38,7 +38,21 @@ impl Reversible for LiveTable {
 
     ghost target = { λ d t. carry_table d t };
 
-    ghost has_room = { HasTableRoom };
+    ghost Room = { Unit {0} };
+
+    ghost room = { λ v. tt };
+
+    ghost holds = { λ w u. Unit {0} };
+
+    ghost carries = { HasTableRoom };
+
+    ghost has_room = { λ d v w. HasTableRoom d v };
+
+    ghost left = { λ d v w. w };
+
+    fn make_room(&mut self, _delta: &TableDelta) -> Result<(), AllocError> {
+        Ok(())
+    }
 
     fn turn(&mut self, delta: &mut TableDelta) -> Result<(), AllocError> {
         turn_managers(&mut self.managers, delta);
@@ -50,4 +64,8 @@ impl Reversible for LiveTable {
     ghost fixes_steps = { λ c d t u h k. (table_laws c t u h.takes).1 d k.takes };
 
     ghost leads_back = { λ d t u h. (turned_table d t, record { takes = (table_laws d t u h.takes).2; from = h.to; to = h.from }) };
+
+    ghost served_by_more = { λ d v w u h k. h };
+
+    ghost leaves_more = { λ d v w u h k. k };
 }
