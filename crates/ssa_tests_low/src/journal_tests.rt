@@ -35,7 +35,21 @@ impl Reversible for Counter {
 
     ghost target = { λ d v. d };
 
-    ghost has_room = { λ d v. Unit {0} };
+    ghost Room = { Unit {0} };
+
+    ghost room = { λ v. tt };
+
+    ghost holds = { λ w u. Unit {0} };
+
+    ghost carries = { λ d v. Unit {0} };
+
+    ghost has_room = { λ d v w. Unit {0} };
+
+    ghost left = { λ d v w. w };
+
+    fn make_room(&mut self, _delta: &u32) -> Result<(), AllocError> {
+        Ok(())
+    }
 
     fn turn(&mut self, delta: &mut u32) -> Result<(), AllocError> {
         mem::swap(&mut self.count, delta);
@@ -47,6 +61,10 @@ impl Reversible for Counter {
     ghost fixes_steps = { λ d e v w p q. p ∙ sym q };
 
     ghost leads_back = { λ d v w p. (v, refl) };
+
+    ghost served_by_more = { λ d v w u h k. h };
+
+    ghost leaves_more = { λ d v w u h k. k };
 }
 
 // A number that a record replaces unless it is locked.
@@ -78,7 +96,21 @@ impl Reversible for Dial {
 
     ghost target = { λ d v. d };
 
-    ghost has_room = { λ d v. Unit {0} };
+    ghost Room = { Unit {0} };
+
+    ghost room = { λ v. tt };
+
+    ghost holds = { λ w u. Unit {0} };
+
+    ghost carries = { λ d v. Unit {0} };
+
+    ghost has_room = { λ d v w. Unit {0} };
+
+    ghost left = { λ d v w. w };
+
+    fn make_room(&mut self, _delta: &u32) -> Result<(), AllocError> {
+        Ok(())
+    }
 
     fn turn(&mut self, delta: &mut u32) -> Result<(), AllocError> {
         if self.is_locked {
@@ -93,6 +125,10 @@ impl Reversible for Dial {
     ghost fixes_steps = { λ d e v w p q. p ∙ sym q };
 
     ghost leads_back = { λ d v w p. (v, refl) };
+
+    ghost served_by_more = { λ d v w u h k. h };
+
+    ghost leaves_more = { λ d v w u h k. k };
 }
 
 // Takes a counter one record back: whether there was one, and where the counter is then.
@@ -100,8 +136,8 @@ fn back(
     journal: &mut Journal<Counter, u8>,
     counter: &mut Counter,
 ) -> Result<(bool, u32), AllocError>
-    requires { GoesWith journal.old counter.old.count }
-    ensures { GoesWith journal.new counter.new.count }
+    requires { GoesWith journal.old counter.old.count tt }
+    ensures { GoesWith journal.new counter.new.count tt }
 {
     let moved = journal.undo(counter)?;
     Ok((moved, counter.count))
@@ -112,8 +148,8 @@ fn forth(
     journal: &mut Journal<Counter, u8>,
     counter: &mut Counter,
 ) -> Result<(bool, u32), AllocError>
-    requires { GoesWith journal.old counter.old.count }
-    ensures { GoesWith journal.new counter.new.count }
+    requires { GoesWith journal.old counter.old.count tt }
+    ensures { GoesWith journal.new counter.new.count tt }
 {
     let moved = journal.redo(counter)?;
     Ok((moved, counter.count))
@@ -131,7 +167,7 @@ fn walk(
     journal: &mut Journal<Counter, u8>,
     counter: &mut Counter,
 ) -> Result<((bool, u32), u32, [(bool, u32); 6]), AllocError>
-    requires { GoesWith journal.old counter.old.count }
+    requires { GoesWith journal.old counter.old.count tt }
 {
     let before = back(journal, counter)?;
     journal.record(counter, boxed(alloc, 2, 12)?)?;
@@ -171,7 +207,7 @@ fn forget(
     journal: &mut Journal<Counter, u8>,
     counter: &mut Counter,
 ) -> Result<([bool; 2], [(bool, u32); 2], bool), AllocError>
-    requires { GoesWith journal.old counter.old.count }
+    requires { GoesWith journal.old counter.old.count tt }
 {
     let none = journal.forget();
     journal.record(counter, boxed(alloc, 2, 12)?)?;
@@ -217,8 +253,8 @@ fn record_four(
     journal: &mut Journal<Counter, u8>,
     counter: &mut Counter,
 ) -> Result<(), AllocError>
-    requires { GoesWith journal.old counter.old.count }
-    ensures { GoesWith journal.new counter.new.count }
+    requires { GoesWith journal.old counter.old.count tt }
+    ensures { GoesWith journal.new counter.new.count tt }
 {
     journal.record(counter, boxed(alloc, 2, 12)?)?;
     journal.record(counter, boxed(alloc, 3, 13)?)?;
@@ -232,7 +268,7 @@ fn entries_on_the_way(
     journal: &mut Journal<Counter, u8>,
     counter: &mut Counter,
 ) -> Result<([Entries; 3], (usize, usize)), AllocError>
-    requires { GoesWith journal.old counter.old.count }
+    requires { GoesWith journal.old counter.old.count tt }
 {
     let first = entries(journal);
     record_four(alloc, journal, counter)?;
@@ -272,7 +308,7 @@ fn record_after_undo(
     journal: &mut Journal<Counter, u8>,
     counter: &mut Counter,
 ) -> Result<((usize, usize), Entries, (bool, u32)), AllocError>
-    requires { GoesWith journal.old counter.old.count }
+    requires { GoesWith journal.old counter.old.count tt }
 {
     journal.record(counter, boxed(alloc, 2, 12)?)?;
     journal.record(counter, boxed(alloc, 3, 13)?)?;
@@ -306,8 +342,8 @@ fn precede_locked(
     entry: Box<(u32, u8)>,
 ) -> (bool, Seen)
     requires first { past_of journal.old ≡ [] }
-    requires whole { GoesWith journal.old dial.old.number }
-    ensures { GoesWith journal.new dial.new.number }
+    requires whole { GoesWith journal.old dial.old.number tt }
+    ensures { GoesWith journal.new dial.new.number tt }
 {
     dial.is_locked = true;
     let is_refused = journal.precede(dial, entry).is_err();
@@ -324,7 +360,7 @@ fn precede_and_redo(
     dial: &mut Dial,
 ) -> Result<(Seen, (bool, Seen), (bool, bool), Seen), AllocError>
     requires first { past_of journal.old ≡ [] }
-    requires whole { GoesWith journal.old dial.old.number }
+    requires whole { GoesWith journal.old dial.old.number tt }
 {
     journal.precede(dial, boxed(alloc, 2, 13)?)?;
     journal.precede(dial, boxed(alloc, 1, 12)?)?;
@@ -353,8 +389,8 @@ fn try_all(
     dial: &mut Dial,
     entry: Box<(u32, u8)>,
 ) -> [(bool, Entries); 3]
-    requires { GoesWith journal.old dial.old.number }
-    ensures { GoesWith journal.new dial.new.number }
+    requires { GoesWith journal.old dial.old.number tt }
+    ensures { GoesWith journal.new dial.new.number tt }
 {
     [
         (journal.record(dial, entry).is_err(), entries(journal)),
@@ -370,7 +406,7 @@ fn lock_and_unlock(
     journal: &mut Journal<Dial, u8>,
     dial: &mut Dial,
 ) -> Result<([(bool, Entries); 3], u32, bool, u32), AllocError>
-    requires { GoesWith journal.old dial.old.number }
+    requires { GoesWith journal.old dial.old.number tt }
 {
     journal.record(dial, boxed(alloc, 2, 12)?)?;
     journal.record(dial, boxed(alloc, 3, 13)?)?;

@@ -198,14 +198,14 @@ preceded-back t l w h new =
 
 -- ---- moves
 
--- a value and a journal that hold the same
-pub same-row : {T L D : Type 0} {g : Ghosts T D} (j k : Journal T L D g) (v w : T) → HoldsSame j k → v ≡ w
+-- a journal that holds the same, beside a value that means the same
+pub same-row : {T L D : Type 0} {g : Ghosts T D} (j k : Journal T L D g) (v w : T) → HoldsSame j k → g.meaning v ≡ g.meaning w
     → timeline_of j (g.meaning v) ≡ timeline_of k (g.meaning w)
 same-row {g = g} j k v w same is =
     λ i. record {
-      past = steps_along (leads g) (reverse (same.0 i)) (g.meaning (is i));
-      present = g.meaning (is i);
-      future = steps_along (leads g) (same.1 i) (g.meaning (is i));
+      past = steps_along (leads g) (reverse (same.0 i)) (is i);
+      present = is i;
+      future = steps_along (leads g) (same.1 i) (is i);
     }
 
 -- what was recorded, or what stays where memory was refused

@@ -53,11 +53,16 @@ module _ {D : Type 0} (leads : D → State → State) (Fits : D → State → Ty
     -- it leads from the first state to the second
     pub to : leads d v ≡ w
 
-  back-at : (rs : List (D × Label)) (v : State) → AllFit Fits leads rs v → (n : ℕ) (r : D × Label) → slice_get (reverse rs) n ≡ Some r
+  -- each record of a list fits, whatever room it is told with
+  abbrev pub AllFitSome : {W : Type 0} → (D → State → W → Type 0) → (D → State → W → W) → List (D × Label) → State → W → Type 0
+  AllFitSome {W = W} FitsWith left rs v w = ((d : D) (x : State) (u : W) → FitsWith d x u → Fits d x) × AllFit FitsWith leads left rs v w
+
+  back-at : {W : Type 0} (FitsWith : D → State → W → Type 0) (left : D → State → W → W) (rs : List (D × Label)) (v : State) (w : W)
+      → AllFitSome FitsWith left rs v w → (n : ℕ) (r : D × Label) → slice_get (reverse rs) n ≡ Some r
       → LeadsBetween r.0 (last_state (first_of (steps_along leads rs v) v) (take (n + 1) (steps_to (steps_along leads rs v) v)))
       (last_state (first_of (steps_along leads rs v) v) (take n (steps_to (steps_along leads rs v) v)))
-  back-at [] v fit n r at = absurd (none-some r at)
-  back-at (x ∷ rs) v fit n r at =
+  back-at FitsWith left [] v w fit n r at = absurd (none-some r at)
+  back-at FitsWith left (x ∷ rs) v w fit n r at =
       let s = leads x.0 v in
       let past = steps_along leads rs s in
       let steps = steps_to past s in
@@ -66,7 +71,7 @@ module _ {D : Type 0} (leads : D → State → State) (Fits : D → State → Ty
       let many : length steps ≡ length rs = steps-many past s ∙ steps-length leads rs s in
       elim (slice_get-both (reverse rs) (x ∷ []) n r (ap (λ xs. slice_get xs n) (sym (reverse-append (x ∷ []) rs)) ∙ at)) [
         | inl h ↦
-            let back = back-at rs s fit.1 n r h.0 in
+            let back = back-at FitsWith left rs s (left x.0 v w) (fit.0, fit.1.1) n r h.0 in
             let long = length-reverse rs in
             let lt = h.1 in
             subst (λ xs. LeadsBetween r.0 (last_state first xs) (last_state first (take n (steps ++ own ∷ []))))
@@ -86,17 +91,18 @@ module _ {D : Type 0} (leads : D → State → State) (Fits : D → State → Ty
             subst (λ (q : D × Label). LeadsBetween q.0 (last_state first (take (n + 1) (steps ++ own ∷ []))) (last_state first (take n (steps ++ own ∷ []))))
             one.1
             (record {
-              fits = subst (Fits x.0) (sym (ap (last_state first) all ∙ last-is ((s, x.1) ∷ past) v)) fit.0;
+              fits = subst (Fits x.0) (sym (ap (last_state first) all ∙ last-is ((s, x.1) ∷ past) v)) (fit.0 x.0 v w fit.1.0);
               to = ap (leads x.0) (ap (last_state first) all ∙ last-is ((s, x.1) ∷ past) v) ∙ sym (ap (last_state first) before ∙ last-is past s);
             })
       ]
 
-  forward-at : (rs : List (D × Label)) (v : State) → AllFit Fits leads rs v → (n : ℕ) (r : D × Label) → slice_get rs n ≡ Some r
+  forward-at : {W : Type 0} (FitsWith : D → State → W → Type 0) (left : D → State → W → W) (rs : List (D × Label)) (v : State) (w : W)
+      → AllFitSome FitsWith left rs v w → (n : ℕ) (r : D × Label) → slice_get rs n ≡ Some r
       → LeadsBetween r.0 (last_state v (take n (map step_of (steps_along leads rs v)))) (last_state v (take (suc n) (map step_of (steps_along leads rs v))))
-  forward-at [] v fit n r at = absurd (none-some r at)
-  forward-at (x ∷ rs) v fit zero r at =
-      subst (λ (q : D × Label). LeadsBetween q.0 v (leads x.0 v)) (same_Some x r at) (record { fits = fit.0; to = refl })
-  forward-at (x ∷ rs) v fit (suc n) r at = forward-at rs (leads x.0 v) fit.1 n r at
+  forward-at FitsWith left [] v w fit n r at = absurd (none-some r at)
+  forward-at FitsWith left (x ∷ rs) v w fit zero r at =
+      subst (λ (q : D × Label). LeadsBetween q.0 v (leads x.0 v)) (same_Some x r at) (record { fits = fit.0 x.0 v w fit.1.0; to = refl })
+  forward-at FitsWith left (x ∷ rs) v w fit (suc n) r at = forward-at FitsWith left rs (leads x.0 v) (left x.0 v w) (fit.0, fit.1.1) n r at
 
   module _ (past future : List (D × Label)) (v : State) where
     abbrev row : Timeline State Label
@@ -123,14 +129,15 @@ module _ {D : Type 0} (leads : D → State → State) (Fits : D → State → Ty
         ∙ ap (λ s. last_state s (take m (map step_of row.future))) (last-is row.past v)
 
     -- the n-th record of past and future leads between the states of the n-th command
-    pub record-at : AllFit Fits leads (reverse past) v → AllFit Fits leads future v → (n : ℕ) (r : D × Label) → slice_get (past ++ future) n ≡ Some r
+    pub record-at : {W : Type 0} (FitsWith : D → State → W → Type 0) (left : D → State → W → W) (w : W)
+        → AllFitSome FitsWith left (reverse past) v w → AllFitSome FitsWith left future v w → (n : ℕ) (r : D × Label) → slice_get (past ++ future) n ≡ Some r
         → LeadsBetween r.0 (kept_from (in_a_row row) n) (kept_to (in_a_row row) n)
-    record-at back forward n r at =
+    record-at FitsWith left w back forward n r at =
         elim (slice_get-both past future n r at) [
           | inl h ↦
               let lt = h.1 in
               let before : nat_lt n (length row.past) ≡ true = lt-ltb n (length row.past) (omega (arith, lt, past-many)) in
-              let led = back-at (reverse past) v back n r (ap (λ xs. slice_get xs n) (reverse-reverse past) ∙ h.0) in
+              let led = back-at FitsWith left (reverse past) v w back n r (ap (λ xs. slice_get xs n) (reverse-reverse past) ∙ h.0) in
               subst (LeadsBetween r.0 (kept_from (in_a_row row) n))
               (sym (ap (λ b. state_at (in_a_row row) (if b then n else n + 1)) before ∙ state-before n (omega (arith, lt))))
               (subst (λ w. LeadsBetween r.0 w (last_state (first_of row.past v) (take n steps)))
@@ -140,7 +147,7 @@ module _ {D : Type 0} (leads : D → State → State) (Fits : D → State → Ty
               let place : n ≡ length past + m = h.1 in
               let more : n + 1 ≡ length past + suc m = omega (arith, place) in
               let behind : nat_lt n (length row.past) ≡ false = le-ltb n (length row.past) (omega (arith, place, past-many)) in
-              let led = forward-at future v forward m r h.2 in
+              let led = forward-at FitsWith left future v w forward m r h.2 in
               subst (LeadsBetween r.0 (kept_from (in_a_row row) n))
               (sym (ap (λ b. state_at (in_a_row row) (if b then n else n + 1)) behind ∙ ap (state_at (in_a_row row)) more ∙ state-behind (suc m)))
               (subst (λ w. LeadsBetween r.0 w (last_state v (take (suc m) (map step_of row.future))))
@@ -168,7 +175,8 @@ FitsState d v = IsTaken (state_steps d) v (led_to d v) × HasStateRoom d v
 pub record-between : (t : Inside) → IsWhole t → (n : ℕ) (r : StateDelta × Label) → slice_get (past_of t.journal ++ future_of t.journal) n ≡ Some r
     → LeadsBetween led_to FitsState r.0 (kept_from (timeline_view t) n) (kept_to (timeline_view t) n)
 record-between t whole n r at =
-    record-at led_to FitsState (past_of t.journal) (future_of t.journal) (state_view t.live.state) whole.goes.back whole.goes.forward n r at
+    record-at led_to FitsState (past_of t.journal) (future_of t.journal) (state_view t.live.state) (λ d v w. FitsState d v) (λ d v w. w) tt
+    (λ d v w h. h, whole.goes.back) (λ d v w h. h, whole.goes.forward) n r at
 
 -- the record is that of the two states
 pub record-is : (t : Inside) → IsWhole t → (n : ℕ) (r : StateDelta × Label) → slice_get (past_of t.journal ++ future_of t.journal) n ≡ Some r

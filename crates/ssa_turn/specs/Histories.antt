@@ -47,9 +47,9 @@ in_a_row t = record { first = first_of t.past t.present; later = steps_to t.past
 abbrev pub timeline_view : Inside → model.Timeline
 timeline_view t = in_a_row (timeline_of t.journal (state_view t.live.state))
 
--- the journal goes with the live state, and what the history tells is read back from its writing, also the paths of its states
+-- the journal goes with the live state, whose records carry all the room that they need, and what the history tells is read back from its writing, also the paths of its states
 pub record IsWhole (t : Inside) : Type 0 where
-  pub goes : GoesWith t.journal (state_view t.live.state)
+  pub goes : GoesWith t.journal (state_view t.live.state) tt
   pub back : AllTablesBack (timeline_view t)
   pub dated : All MakesDated (timeline_view t).later
   pub read : HasReadHistory readings (timeline_view t)

@@ -18,8 +18,8 @@ record-moved-requires-clause-fits c =
     let d = state_steps c.args.entry.value.0 in
     subst (λ s. IsTaken d s (carry d s)) (sym (ap present c.self.view_is) ∙ present-is row) c.requires.fits
 
-pub record-moved-requires-clause-room : goal.record-moved-requires-clause-room
-record-moved-requires-clause-room c =
+pub record-moved-requires-clause-carries : goal.record-moved-requires-clause-carries
+record-moved-requires-clause-carries c =
     let row = timeline_of c.self.inside.journal (state_view c.self.inside.live.state) in
     subst (HasStateRoom c.args.entry.value.0) (sym (ap present c.self.view_is) ∙ present-is row) c.requires.room
 
@@ -51,3 +51,10 @@ returns-clause-ok c =
     (λ h. ap in_a_row h ∙ recorded-is row (carry d (state_view c.self.inside.live.state)) l
     ∙ (λ i. appended (c.self.view_is i) (label_view l) (carry d (sym here i))))
     c.record-moved.ensures.ok
+
+pub returns-clause-err : goal.returns-clause-err
+returns-clause-err c =
+    let call = c.record-moved in
+    on-err call.result
+    (λ h. ap in_a_row (same-row call.new.self c.self.inside.journal call.new.value c.self.inside.live h.1 h.0) ∙ c.self.view_is)
+    call.ensures.err

@@ -28,4 +28,4 @@ invariant_of-self c =
     forgotten-row leads (past_of before) (past_of after) (future_of before) (future_of after) v c.args.self.now
     c.forget.ensures.past c.forget.ensures.future c.self.view_is c.requires in
     let back = subst IsReadBack (sym row) (forgotten-back c.args.self.now (subst IsReadBack c.self.view_is (whole-back c.self.inside c.self.invariant))) in
-    record { goes = c.forget.ensures.whole v c.self.invariant.goes; back = back.back; dated = back.dated; read = back.read }
+    record { goes = c.forget.ensures.whole v tt c.self.invariant.goes; back = back.back; dated = back.dated; read = back.read }

@@ -26,8 +26,8 @@ precede-moved-requires-clause-fits c =
     let d = state_steps c.args.entry.value.0 in
     subst (λ s. IsTaken d s (carry d s)) (sym (ap present c.self.view_is) ∙ present-is row) c.requires.fits
 
-pub precede-moved-requires-clause-room : goal.precede-moved-requires-clause-room
-precede-moved-requires-clause-room c =
+pub precede-moved-requires-clause-carries : goal.precede-moved-requires-clause-carries
+precede-moved-requires-clause-carries c =
     let row = timeline_of c.self.inside.journal (state_view c.self.inside.live.state) in
     subst (HasStateRoom c.args.entry.value.0) (sym (ap present c.self.view_is) ∙ present-is row) c.requires.room
 
@@ -59,3 +59,10 @@ returns-clause-ok c =
     (λ h. ap in_a_row h ∙ preceded-is row (carry d (state_view c.self.inside.live.state)) l (ap past_len c.self.view_is ∙ c.requires.first)
     ∙ (λ i. preceded (c.self.view_is i) (label_view l) (carry d (sym here i))))
     c.precede-moved.ensures.ok
+
+pub returns-clause-err : goal.returns-clause-err
+returns-clause-err c =
+    let call = c.precede-moved in
+    on-err call.result
+    (λ h. ap in_a_row (same-row call.new.self c.self.inside.journal call.new.value c.self.inside.live h.1 h.0) ∙ c.self.view_is)
+    call.ensures.err

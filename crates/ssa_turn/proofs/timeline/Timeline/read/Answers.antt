@@ -17,7 +17,7 @@ invariant_of-self g c =
     let journal = c.self.inside.journal in
     let same = sym c.read.ensures.same in
     let read = subst (λ (s : State). IsReadBack (in_a_row (timeline_of journal s))) same (whole-back c.self.inside c.self.invariant) in
-    record { goes = subst (GoesWith journal) same c.self.invariant.goes; back = read.back; dated = read.dated; read = read.read }
+    record { goes = subst (λ (s : State). GoesWith journal s tt) same c.self.invariant.goes; back = read.back; dated = read.dated; read = read.read }
 
 pub returns-clause-same : goal.returns-clause-same
 returns-clause-same g c = ap (λ s. in_a_row (timeline_of c.self.inside.journal s)) c.read.ensures.same ∙ c.self.view_is
