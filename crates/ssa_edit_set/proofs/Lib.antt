@@ -1,0 +1,9 @@
+pub mod FitsBack
+pub mod Going
+pub mod Inner
+pub mod Made
+pub mod Others
+pub mod Paths
+pub mod Putting
+pub mod RoomLaws
+pub mod Whole

@@ -1,0 +1,24 @@
+use Rattle.std.proofs.Common.{◌+◌, ◌*◌, ◌≤◌}
+use Rattle.std.specs.Prelude.{vec_capacity}
+use Rattle.ssa_edit_set.proofs.Going.{IsGoing}
+use Rattle.ssa_edit_set.proofs.turning.+turning.Given as goal
+
+abbrev pub invariant-turn_children-loop-i : goal.invariant-turn_children-loop-i
+invariant-turn_children-loop-i l = record {
+  unvisited : goal.unvisited-turn_children-loop-i l;
+  going : IsGoing l.fn.edits.items l.fn.below.items l.i l.edits.items l.below.items;
+  room : vec_capacity l.fn.below ≤ vec_capacity l.below;
+}
+
+-- edits are as deep as the deepest of them, and an element's edit as what becomes of it: so each step from one function to another counts as well
+abbrev pub decreases-turn_child : goal.decreases-turn_child
+decreases-turn_child l = 4 * goal.size-turn_child l
+
+abbrev pub decreases-turn_children : goal.decreases-turn_children
+decreases-turn_children l = 4 * goal.size-turn_children l + 1
+
+abbrev pub decreases-turn_place : goal.decreases-turn_place
+decreases-turn_place l = 4 * goal.size-turn_place l + 2
+
+abbrev pub decreases-turn_inner : goal.decreases-turn_inner
+decreases-turn_inner l = 4 * goal.size-turn_inner l + 3

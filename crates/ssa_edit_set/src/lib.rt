@@ -1,0 +1,13 @@
+//! Sets of paths that are changed in place within the room of their places.
+//!
+//! What becomes of a set is an [`Edit`]. A child that goes is moved into it as it stands, with the room of all its places; a
+//! child that comes wants room at its place alone. So an edit keeps what it says, and the room stays where it was made.
+#![tactic(auto)]
+
+pub mod edit;
+mod moving;
+pub mod set_edit;
+pub mod turning;
+
+pub use edit::Edit;
+pub use set_edit::{SetEdit, turn_set};
