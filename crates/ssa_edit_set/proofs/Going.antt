@@ -42,7 +42,8 @@ elements-set rs i r s lt is named =
     ∙ ap (λ k. elements (take i rs) ++ element_view k ∷ elements (drop (i + 1) rs)) named
     ∙ sym (elements-append (take i rs) (r ∷ drop (i + 1) rs)) ∙ ap elements (sym (parted rs i r lt is))
 
-nothing-behind : {A : Type 0} (e : Element) (rs : List (Elem × A)) → child_at e (rs ++ []) ≡ child_at e rs
+-- none stands behind them
+pub nothing-behind : {A : Type 0} (e : Element) (rs : List (Elem × A)) → child_at e (rs ++ []) ≡ child_at e rs
 nothing-behind e [] = refl
 nothing-behind e (r ∷ rs) = ap (λ o. cond (same_element e (element_view r.0)) (Some r.1) o) (nothing-behind e rs)
 

@@ -5,5 +5,7 @@ pub mod Made
 pub mod Others
 pub mod Paths
 pub mod Putting
+pub mod RoomAsked
 pub mod RoomLaws
+pub mod RoomMade
 pub mod Whole

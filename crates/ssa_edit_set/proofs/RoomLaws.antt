@@ -11,7 +11,7 @@ use Rattle.ssa_edit_set.specs.Edits.{children}
 use Rattle.ssa_edit_set.specs.Rooms.{HoldsRoom, LeavesMore, Room, capacity_at, capacity_of, left, left_child, left_edit, room_of}
 use Rattle.ssa_edit_set.specs.Turned.{ChildTurned, EditTurned, PlaceTurned}
 
-same-most : (n m : ℕ) → n ≡ m → n ≤ m
+pub same-most : (n m : ℕ) → n ≡ m → n ≤ m
 same-most n m is = omega arith
 
 -- ---- of more room more is left

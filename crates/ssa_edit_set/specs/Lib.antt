@@ -1,3 +1,5 @@
 pub mod Edits
 pub mod Turned
 pub mod Rooms
+pub mod Carried
+pub mod Making

@@ -5,6 +5,7 @@
 #![tactic(auto)]
 
 pub mod edit;
+pub mod making;
 mod moving;
 pub mod set_edit;
 pub mod turning;

@@ -3,6 +3,7 @@ ghost use Rattle.std.specs.Prelude.{◌≡◌, ◌≤◌, true};
 ghost use Rattle.ssa_model.specs.definitions.Path.{Path};
 ghost use Rattle.ssa_path.specs.Trie.{is_one_of, is_trie, paths};
 ghost use Rattle.ssa_edit_set.specs.Edits.{after, PlaceFits};
+ghost use Rattle.ssa_edit_set.specs.Carried.{FitsWithRoom, ServedByMore};
 ghost use Rattle.ssa_edit_set.specs.Rooms.{HoldsRoom, LeavesMore, capacity_at, room_left, room_of};
 
 use crate::edit::Edit;
@@ -43,6 +44,16 @@ pub fn turn_twice(set: &mut Trie, edit: &mut SetEdit)
     turn_set(set, edit);
     turn_set(set, edit);
 }
+
+/// Room that serves an edit serves it where there is more.
+pub fn served_by_more()
+    ensures { ServedByMore }
+{}
+
+/// An edit that has what it wants fits a set with the room that it asks for.
+pub fn fits_with_room()
+    ensures { FitsWithRoom }
+{}
 
 /// Of more room a turn leaves more.
 pub fn leaves_more()
