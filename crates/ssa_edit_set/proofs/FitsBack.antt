@@ -17,7 +17,7 @@ use Rattle.ssa_edit_set.specs.Turned.{ChildTurned, EditTurned, PlaceTurned}
 use Rattle.ssa_edit_set.proofs.Paths.{turned-back}
 
 -- a child of filled tries is a trie with some path
-filled-child : (e : Element) (cs : List (Elem × Trie)) (c : Trie) → are_filled_tries cs ≡ true → child_at e cs ≡ Some c → (is_trie c ≡ true) × (is_filled c ≡ true)
+pub filled-child : (e : Element) (cs : List (Elem × Trie)) (c : Trie) → are_filled_tries cs ≡ true → child_at e cs ≡ Some c → (is_trie c ≡ true) × (is_filled c ≡ true)
 filled-child e [] c h there = cc
 filled-child e (x ∷ cs) c h there =
     by (filled-child e cs c (both_second (is_trie x.1 && is_filled x.1) _ h)) (same_element e (element_view x.0)) there

@@ -1,3 +1,4 @@
+pub mod Alike
 pub mod FitsBack
 pub mod Going
 pub mod Inner

@@ -1,5 +1,5 @@
 -- Room that is asked for.
-use Rattle.std.proofs.Common.{◌≡◌, ℕ, ◌+◌, ◌≤◌, List, [], ◌∷◌, length, Bool, Option, Some, None, arith}
+use Rattle.std.proofs.Common.{List, [], ◌∷◌, Bool, Option, Some, None}
 use Rattle.ssa_model.specs.definitions.Path.{Element, Path}
 use Rattle.ssa_path.specs.Children.{child_at}
 use Rattle.ssa_path.specs.declared.element.Elem.{Elem}
@@ -7,32 +7,9 @@ use Rattle.ssa_path.specs.declared.trie.Trie.{Trie}
 use Rattle.ssa_edit_set.specs.declared.edit.Edit.{Edit}
 use Rattle.ssa_edit_set.specs.declared.edit.Edit.TheOpen.{Edit-F}
 use Rattle.ssa_edit_set.specs.declared.edit.Edit.TheViews.{out-Edit}
-use Rattle.ssa_edit_set.specs.Carried.{ChildAsks, EditAsks, FitsWithRoom, PlaceAsks, PlaceCarries, ServedByMore}
+use Rattle.ssa_edit_set.specs.Carried.{ChildAsks, EditAsks, FitsWithRoom, PlaceAsks, PlaceCarries}
 use Rattle.ssa_edit_set.specs.Edits.{children, ChildFits, EditFits, PlaceFits}
-use Rattle.ssa_edit_set.specs.Rooms.{HoldsRoom, Room, capacity_at, capacity_of, room_of}
-
--- ---- more room serves
-
-abbrev Served : (List (Elem × Edit) → Trie → Room → Type 0) → Type 0
-Served A = (rs : List (Elem × Edit)) (c : Trie) (w u : Room) → HoldsRoom w u → A rs c w → A rs c u
-
-module _ (A : List (Elem × Edit) → Trie → Room → Type 0) (served : Served A) where
-  served-edit : (x : Edit-F Edit) (c : Option Trie) (w u : Room) → HoldsRoom w u → EditAsks A x c w → EditAsks A x c u
-  served-edit (Edit-F.Within f rs) None w u h a = tt
-  served-edit (Edit-F.Within f rs) (Some c) w u h a = served rs.items c w u h a
-  served-edit (Edit-F.Whole k) c w u h a = tt
-
-  served-child : (r : Option Edit) (c : Option Trie) (w u : Room) → HoldsRoom w u → ChildAsks A r c w → ChildAsks A r c u
-  served-child None c w u h a = tt
-  served-child (Some r) c w u h a = served-edit (out-Edit r) c w u h a
-
-served-place : (p : Path) → Served (PlaceAsks p)
-served-place [] rs c w u h a = let more = h [] in omega arith
-served-place (e ∷ p) rs c w u h a =
-    served-child (PlaceAsks p) (served-place p) (child_at e rs) (child_at e (children c)) (λ q. w (e ∷ q)) (λ q. u (e ∷ q)) (λ q. h (e ∷ q)) a
-
-pub served-by-more : ServedByMore
-served-by-more rs c w u h a = λ p. served-place p rs c w u h (a p)
+use Rattle.ssa_edit_set.specs.Rooms.{capacity_at, capacity_of, room_of}
 
 -- ---- with its room an edit fits
 
@@ -57,3 +34,24 @@ fit-place (e ∷ p) f rs c h a = fit-child e p (fit-place p) (child_at e rs) (ch
 
 pub fits-with-room : FitsWithRoom
 fits-with-room f rs c h a = λ p. fit-place p f rs c (h p) (a p)
+
+-- ---- an edit that fits has what it wants, and the room that it asks for
+
+abbrev Parts : Path → Type 0
+Parts p = (f : Bool) (rs : List (Elem × Edit)) (c : Trie) → PlaceFits p f rs c → PlaceCarries p f rs c × PlaceAsks p rs c (room_of c)
+
+module _ (e : Element) (p : Path) (parts : Parts p) where
+  parts-edit : (x : Edit-F Edit) (c : Option Trie) → EditFits (PlaceFits p) e x c
+      → EditFits (PlaceCarries p) e x c × EditAsks (PlaceAsks p) x c (λ q. capacity_of (capacity_at q) c)
+  parts-edit (Edit-F.Within f rs) None h = absurd h
+  parts-edit (Edit-F.Within f rs) (Some c) h = let both = parts f rs.items c h.0 in ((both.0, h.1), both.1)
+  parts-edit (Edit-F.Whole k) c h = (h, tt)
+
+  parts-child : (r : Option Edit) (c : Option Trie) → ChildFits (PlaceFits p) e r c
+      → ChildFits (PlaceCarries p) e r c × ChildAsks (PlaceAsks p) r c (λ q. capacity_of (capacity_at q) c)
+  parts-child None c h = (tt, tt)
+  parts-child (Some r) c h = parts-edit (out-Edit r) c h
+
+pub fitting-parts : (p : Path) → Parts p
+fitting-parts [] f rs c h = (h.risen, h.room)
+fitting-parts (e ∷ p) f rs c h = parts-child e p (fitting-parts p) (child_at e rs) (child_at e (children c)) h

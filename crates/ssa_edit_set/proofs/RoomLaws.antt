@@ -8,30 +8,11 @@ use Rattle.ssa_edit_set.specs.declared.edit.Edit.{Edit}
 use Rattle.ssa_edit_set.specs.declared.edit.Edit.TheOpen.{Edit-F}
 use Rattle.ssa_edit_set.specs.declared.edit.Edit.TheViews.{out-Edit}
 use Rattle.ssa_edit_set.specs.Edits.{children}
-use Rattle.ssa_edit_set.specs.Rooms.{HoldsRoom, LeavesMore, Room, capacity_at, capacity_of, left, left_child, left_edit, room_of}
+use Rattle.ssa_edit_set.specs.Rooms.{capacity_at, capacity_of, left, left_child, left_edit, room_of}
 use Rattle.ssa_edit_set.specs.Turned.{ChildTurned, EditTurned, PlaceTurned}
 
 pub same-most : (n m : ℕ) → n ≡ m → n ≤ m
 same-most n m is = omega arith
-
--- ---- of more room more is left
-
-module _ (p : Path) (L : List (Elem × Edit) → Room → ℕ) (more : (rs : List (Elem × Edit)) (w u : Room) → HoldsRoom w u → L rs w ≤ L rs u) where
-  more-edit : (x : Edit-F Edit) (w u : Room) → HoldsRoom w u → left_edit L p x w ≤ left_edit L p x u
-  more-edit (Edit-F.Within f rs) w u h = more rs.items w u h
-  more-edit (Edit-F.Whole None) w u h = omega arith
-  more-edit (Edit-F.Whole (Some x)) w u h = omega arith
-
-  more-child : (r : Option Edit) (w u : Room) → HoldsRoom w u → left_child L p r w ≤ left_child L p r u
-  more-child None w u h = h p
-  more-child (Some r) w u h = more-edit (out-Edit r) w u h
-
-more-left : (p : Path) (rs : List (Elem × Edit)) (w u : Room) → HoldsRoom w u → left p rs w ≤ left p rs u
-more-left [] rs w u h = h []
-more-left (e ∷ p) rs w u h = more-child p (left p) (more-left p) (child_at e rs) (λ q. w (e ∷ q)) (λ q. u (e ∷ q)) (λ q. h (e ∷ q))
-
-pub leaves-more : LeavesMore
-leaves-more rs w u h = λ p. more-left p rs w u h
 
 -- ---- forth
 

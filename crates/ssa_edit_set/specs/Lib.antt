@@ -3,3 +3,5 @@ pub mod Turned
 pub mod Rooms
 pub mod Carried
 pub mod Making
+pub mod More
+pub mod Records

@@ -5,8 +5,10 @@
 #![tactic(auto)]
 
 pub mod edit;
+pub mod live_trie;
 pub mod making;
 mod moving;
+pub mod record;
 pub mod set_edit;
 pub mod turning;
 

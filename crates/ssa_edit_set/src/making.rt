@@ -92,10 +92,7 @@ fn make_children_room(
 
 // The same for one child.
 #[cycle(making)]
-fn make_child_room(
-    edit: &(Elem, Edit),
-    below: &mut Vec<(Elem, Trie)>,
-) -> Result<(), AllocError>
+fn make_child_room(edit: &(Elem, Edit), below: &mut Vec<(Elem, Trie)>) -> Result<(), AllocError>
     requires rise { rises (elements below.old.items) ≡ true }
     requires tries { are_filled_tries below.old.items ≡ true }
     requires carries { (p : Path) → EditFits (PlaceCarries p) (element_view edit.now.0) (out-Edit edit.now.1) (child_at (element_view edit.now.0) below.old.items) }

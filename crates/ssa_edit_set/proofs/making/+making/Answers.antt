@@ -1,4 +1,4 @@
-use Rattle.std.proofs.Common.{rules, ◌≡◌, ◌∙◌, ◌∷◌, [], Bool, ◌+◌, ◌≤◌, length, length-set, set, ap, sym, refl, subst, true, false, Some, None, arith}
+use Rattle.std.proofs.Common.{rules, ◌≡◌, ◌∙◌, ◌∷◌, [], Bool, length-set, set, ap, sym, refl, subst, true, false, Some, arith}
 use Rattle.std.proofs.lemmas.Option.{same_Some}
 use Rattle.std.proofs.lemmas.Result.{on_ok_weaker as on-ok}
 use Rattle.ssa_model.specs.definitions.Path.{Element, Path, same_element}

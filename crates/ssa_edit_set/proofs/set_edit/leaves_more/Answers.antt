@@ -1,4 +1,4 @@
-use Rattle.ssa_edit_set.proofs.RoomLaws.{leaves-more}
+use Rattle.ssa_edit_set.specs.More.{leaves-more}
 use Rattle.ssa_edit_set.proofs.set_edit.leaves_more.Goals as goal
 
 pub returns : goal.returns
