@@ -198,7 +198,7 @@ fn read_members(
     ensures items { OnOk result (waiting.new.items.items ≡ waiting.old.items.items) }
 {
     let pairs = read_pairs(alloc, reader, waiting, depth)?;
-    Ok(Members::of_pairs(alloc, pairs)?)
+    Ok(Members::of_pairs(pairs)?)
 }
 
 // The members from here to the object's end, in the order of the text.

@@ -5,3 +5,4 @@ pub mod Rising
 pub mod Searching
 pub mod Shifted
 pub mod Texts
+pub mod Unordered

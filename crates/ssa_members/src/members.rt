@@ -12,7 +12,6 @@ use crate::name::Name;
 use crate::words::are_same;
 use std::alloc::{AllocError, Global};
 use std::cmp::Ordering;
-use std::collections::BTreeMap;
 use std::marker::Model;
 use std::mem::replace;
 
@@ -275,7 +274,7 @@ impl<V> Members<V> {
 
     /// What all the pairs put in one after another leave: under each name the last value that comes with it.
     /// Pairs whose names rise stay where they are; of `n` others it takes about `n log n` comparisons.
-    pub fn of_pairs(alloc: Global, pairs: Vec<(Name, V)>) -> Result<Members<V>, AllocError>
+    pub fn of_pairs(pairs: Vec<(Name, V)>) -> Result<Members<V>, AllocError>
     where
         V: Drop,
         ensures { IfOk result (IsMadeOf pairs.items) }
@@ -283,21 +282,18 @@ impl<V> Members<V> {
         if rises(&pairs) {
             return Ok(Members { entries: pairs });
         }
-        Members::of_unordered(alloc, pairs)
+        Members::of_unordered(pairs)
     }
 
-    // The same of pairs in any order. Members mostly come in order, and this takes much of the stack.
-    #[inline(never)]
-    fn of_unordered(alloc: Global, pairs: Vec<(Name, V)>) -> Result<Members<V>, AllocError>
+    // The same of pairs in any order: of those of one name the last one comes first once they are turned round, and stays.
+    fn of_unordered(mut pairs: Vec<(Name, V)>) -> Result<Members<V>, AllocError>
     where
         V: Drop,
         ensures { IfOk result (IsMadeOf pairs.items) }
     {
-        let sorted: BTreeMap<Name, V> = pairs.into_iter().collect(alloc)?;
-        let mut entries = Vec::with_capacity(alloc, sorted.len())?;
-        for entry in sorted {
-            entries.push(entry)?;
-        }
-        Ok(Members { entries })
+        pairs.reverse();
+        pairs.sort_by(|own, other| own.0.cmp(&other.0))?;
+        pairs.dedup_by(|other, first| other.0 == first.0);
+        Ok(Members { entries: pairs })
     }
 }

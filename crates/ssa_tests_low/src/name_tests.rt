@@ -116,7 +116,7 @@ fn collected(alloc: Global) -> Result<Members<Json>, AllocError> {
     for (name, number) in MIXED {
         pairs.push(member(alloc, name, number)?)?;
     }
-    Members::of_pairs(alloc, pairs)
+    Members::of_pairs(pairs)
 }
 
 // Whether an object has the number under the name.

@@ -1,30 +1,30 @@
-use Rattle.std.proofs.Common.{◌≡◌, ◌++◌, None, ap, rules, string_cmp, subst, sym, ◌∙◌}
-use Rattle.std.proofs.lemmas.Iterator.Adapters.{fact_from_collect, YieldsList-from_vec}
-use Rattle.std.proofs.lemmas.List.{append-nil}
-use Rattle.std.specs.BTreeMap.{is_at, IsFromIterResult}
-use Rattle.std.specs.Map.{lookup, update_all}
-use Rattle.std.specs.Ordering.{eq_by_cmp}
-use Rattle.std.specs.Result.{IfOk}
+use Rattle.std.proofs.Common.{◌≡◌, rules, tests, string_bytes, sym, subst}
+use Rattle.std.proofs.lemmas.Fn.{always_returns_same, dedup_same}
+use Rattle.std.proofs.lemmas.List.Kept.{IsStrictlySortedBy-dedup}
+use Rattle.std.proofs.lemmas.List.Sorted.{length_permutation}
+use Rattle.std.proofs.lemmas.List.MinMax.{ranks_by}
+use Rattle.std.proofs.lemmas.Map.Text.{is_eq-slice_cmp}
+use Rattle.std.specs.List.{dedup}
+use Rattle.std.specs.Ordering.{is_lt}
 use Rattle.ssa_members.specs.Members.{IsRising}
+use Rattle.ssa_members.proofs.Rising.{name_total}
+use Rattle.ssa_members.proofs.Unordered.{by_name, is_one_name, made-unordered, names-rise, pair_total}
 use Rattle.ssa_members.proofs.members.Members.of_unordered.Given.{Over}
 use Rattle.ssa_members.proofs.members.Members.of_unordered.Goals as goal
 
-taken-over : (g : Over) (c : goal.After-drop-entry-iterator-2 g) → c.in_ok-sorted.sorted.entries ≡ c.loop-entry.entries.items
-taken-over g c =
-    sym c.into_iter-entry-iterator.ensures.into_iter_gives.0 ∙ c.loop-entry.invariant
-    ∙ ap (λ es. (es ++ c.loop-entry.entries.items) ++ c.loop-entry.entry-iterator) c.in_ok-entries.ensures.items
-    ∙ ap (λ es. c.loop-entry.entries.items ++ es) c.in-None.ensures.steps.0 ∙ append-nil c.loop-entry.entries.items
+once : (g : Over) (c : goal.After-dedup_by g) → c.dedup_by.new.self.items ≡ dedup is_one_name c.sort_by.new.self.items
+once g c = dedup_same _ is_one_name _ (λ x y b f x' y' k. search (rules, tests)) _ _ c.dedup_by.ensures.filtered
 
 pub invariant_of-result : goal.invariant_of-result
-invariant_of-result g c = subst IsRising (taken-over g c) c.len.ensures.ordered
+invariant_of-result g c =
+    let weak = ranks_by name_total (λ p. p.0) in
+    let compares = always_returns_same _ _ _ (λ a r f k. search (rules, tests)) in
+    subst IsRising (sym (once g c)) (names-rise _ (IsStrictlySortedBy-dedup pair_total (λ x y. sym (is_eq-slice_cmp (string_bytes x.0) (string_bytes y.0))) c.sort_by.new.self.items
+    (c.in_ok-sort_by.ensures.sorted (λ x y. is_lt (by_name x y)) weak compares)))
 
 pub returns : goal.returns
 returns g c =
-    let ps = c.args.pairs.items in
-    let road = YieldsList-from_vec ps (search rules) (search rules) in
-    let made = fact_from_collect (IsFromIterResult string_cmp) c.collect.result c.collect.ensures.ran road in
-    let sorted = subst (λ r. IfOk r (IsFromIterResult string_cmp ps)) c.in_ok-sorted.was made in
-    record {
-      found = λ q. subst (λ es. lookup (is_at (string_cmp q)) es ≡ update_all (eq_by_cmp string_cmp) (λ _. None) ps q) (taken-over g c) (sorted.0 q);
-      rising = invariant_of-result g c;
-    }
+    let weak = ranks_by name_total (λ p. p.0) in
+    let compares = always_returns_same _ _ _ (λ a r f k. search (rules, tests)) in
+    made-unordered c.args.pairs.items c.reverse.new.self.items c.sort_by.new.self.items c.dedup_by.new.self.items c.reverse.ensures.items
+    (length_permutation _ _ c.in_ok-sort_by.ensures.permutation) (c.in_ok-sort_by.ensures.stable (λ x y. is_lt (by_name x y)) weak compares) (once g c) (invariant_of-result g c)
