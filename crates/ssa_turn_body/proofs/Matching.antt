@@ -12,7 +12,7 @@ use Rattle.ssa_model.specs.definitions.Path.{Element, same_element}
 use Rattle.ssa_path.specs.Children.{child_at, elements, IsChildAt}
 use Rattle.ssa_path.specs.View.{element_view}
 use Rattle.ssa_path.proofs.Orders.{both_first, both_second, or_assoc}
-use Rattle.ssa_typed.specs.MergedOrder.{next_place, places}
+use Rattle.ssa_typed.specs.MergedOrder.{live_places, next_place, places}
 use Rattle.ssa_typed.specs.Rows.{are_apart}
 use Rattle.ssa_typed.proofs.SortedOut.{child-next}
 use Rattle.ssa_turn_body.specs.Found.{IsFound, AreFound, AreBelow, all_differ, is_in, is_told, nothing_told, IsTurnedRound, somes, nones, fresh, kept, filled, AreLed}
@@ -422,6 +422,13 @@ pub place-found : (cs : List Child) (d : Child) (f : Option ℕ) → IfSome f (I
     → IsFound cs d f
 place-found cs d None s n = n
 place-found cs d (Some k) s n = s
+
+-- the places of the second children's elements among the first are found
+pub found-places : (cs ds : List Child) → AreFound cs ds (live_places cs ds)
+found-places cs [] = tt
+found-places cs (d ∷ ds) =
+    let told = place-told (element_view d.0) cs _ refl in
+    (place-found cs d _ told.0 told.1, found-places cs ds)
 
 somes-push-some : (fs : Found) (k : ℕ) → somes (fs ++ Some k ∷ []) ≡ somes fs ++ k ∷ []
 somes-push-some [] k = refl

@@ -10,36 +10,16 @@ ghost use Rattle.ssa_turn_body.specs.Orders.{is_none};
 ghost use Rattle.ssa_turn_body.specs.Found.{all_differ, filled, nones, nothing_told, somes, AreFound, AreBelow, AreMissing, IsReordering, IsTurnedRound};
 
 use crate::children::{ChildrenEdit, Orders, Placed};
-use crate::descent::place_of;
 use crate::exchanges::exchanges_between;
 use ssa_path::element::Elem;
-use ssa_typed::merged_order::{find_place, places_in_order};
+use ssa_typed::live_places::live_places;
 use ssa_typed::node::Node;
 use std::alloc::{AllocError, Global};
 
-// Among no more children than so many a search for each is taken to cost less than to put them in order.
-const FEW: usize = 16;
-
-// Where the child of each of these elements stands at a place, each searched for by itself.
-fn places_searched(
-    alloc: Global,
-    own: &Node,
-    others: &[(Elem, Node)],
-) -> Result<Vec<Option<usize>>, AllocError>
-    requires { is_tree own.now ≡ true }
-    ensures { IfOk result (λ v. AreFound (below own.now) others.now v.items) }
-{
-    let mut found = Vec::with_capacity(alloc, others.len())?;
-    for child in others {
-        let searched = place_of(own, &child.0);
-        found.push(searched)?;
-    }
-    Ok(found)
-}
-
 /// Where the child of each of these elements stands at a place, if it has one.
 ///
-/// Takes about n log n comparisons of elements, however they are chosen.
+/// Takes about n log n comparisons, however the elements are chosen: of neighbours where they stand in one order or the reverse
+/// one, mostly of numbers else.
 pub fn places_in(
     alloc: Global,
     own: &Node,
@@ -48,15 +28,7 @@ pub fn places_in(
     requires { is_tree own.now ≡ true }
     ensures { IfOk result (λ v. AreFound (below own.now) others.now v.items) }
 {
-    if own.children().len() <= FEW {
-        return places_searched(alloc, own, others);
-    }
-    let sorted = places_in_order(alloc, own.children())?;
-    let mut found = Vec::with_capacity(alloc, others.len())?;
-    for child in others {
-        let place = find_place(&sorted, &child.0);
-        found.push(place)?;
-    }
+    let found = live_places(alloc, own.children(), others)?;
     Ok(found)
 }
 

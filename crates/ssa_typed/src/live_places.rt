@@ -203,7 +203,7 @@ fn places_searched(
 ///
 /// Takes about n log n comparisons, however the elements are chosen: none but with neighbours where the live children stand in
 /// the configuration's order or the reverse one, mostly of numbers else, and of texts where elements have one number.
-pub(crate) fn live_places(
+pub fn live_places(
     alloc: Global,
     live: &[(Elem, Node)],
     config: &[(Elem, Node)],
