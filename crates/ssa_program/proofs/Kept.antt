@@ -1,8 +1,8 @@
 -- What a call leaves on the disk, by what its steps leave.
-use Rattle.std.specs.Prelude.{◌⊎◌}
+use Rattle.std.specs.Prelude.{◌≢◌, ◌⊎◌}
 use Rattle.std.proofs.Common.{◌≡◌, ◌∙◌, sym, subst, Bool, true, false, Option, Some, None}
 use Rattle.ssa_model.specs.definitions.Json.{Text}
-use Rattle.ssa_disk.specs.Files.{Files, HasBytes, IsAsBut, IsMoved, draft_of, nothing, under}
+use Rattle.ssa_disk.specs.Files.{Files, HasBytes, IsAsBut, IsMoved, draft_of, nothing, other, under}
 use Rattle.ssa_disk.specs.Steps.{joined}
 use Rattle.ssa_program.specs.Done.{ComesTo, EndsAs, WithDraft}
 use Rattle.ssa_program.specs.Kept.{IsKept, IsKeptBy, IsPut, Leaves}
@@ -32,6 +32,7 @@ put_after text bench draft place old locked new same leads a k =
 
 -- A draft of a bench is made, so that the files are locked, and after the last step on them it is ended.
 pub record IsEnded (Stays : Text → Type 0) (placed : Bool) (bench draft place : Text) (old locked last new : Files) : Type 0 where
+  pub plain : under old bench ≢ other
   pub same : draft ≡ draft_of old bench
   pub leads : old.place place ≡ old.place bench
   pub fresh : under old draft ≡ nothing
@@ -39,6 +40,22 @@ pub record IsEnded (Stays : Text → Type 0) (placed : Bool) (bench draft place 
   pub stays : placed ≡ true → new ≡ last
   pub goes : placed ≡ false → (under new draft ≡ nothing) ⊎ Stays draft
   pub ended : IsAsBut draft last new
+
+-- the same where its name at the end is the one with which it was made
+pub ended_as : (Stays : Text → Type 0) (placed : Bool) (bench draft ended_name place : Text) (old locked last new : Files) → ended_name ≡ draft
+    → under old bench ≢ other → draft ≡ draft_of old bench → old.place place ≡ old.place bench → under old draft ≡ nothing → IsAsBut draft old locked
+    → (placed ≡ true → new ≡ last) → (placed ≡ false → (under new ended_name ≡ nothing) ⊎ Stays ended_name) → IsAsBut ended_name last new
+    → IsEnded Stays placed bench draft place old locked last new
+ended_as Stays placed bench draft ended_name place old locked last new name plain same leads fresh made stays goes ended = record {
+  plain = plain;
+  same = same;
+  leads = leads;
+  fresh = fresh;
+  made = made;
+  stays = stays;
+  goes = λ off. subst (λ n. (under new n ≡ nothing) ⊎ Stays n) name (goes off);
+  ended = subst (λ n. IsAsBut n last new) name ended;
+}
 
 module _ (Stays : Text → Type 0) (placed : Bool) (bench draft place : Text) (old locked last new : Files)
     (d : IsEnded Stays placed bench draft place old locked last new) where
@@ -52,7 +69,7 @@ module _ (Stays : Text → Type 0) (placed : Bool) (bench draft place : Text) (o
           (put_after text bench draft place old locked last d.same d.leads d.made k.1)
 
   pub kept : (text : Option Text) → IsKeptBy text placed draft place locked last → IsKept Stays text bench old new
-  kept text k = record { fresh = subst (λ n. under old n ≡ nothing) d.same d.fresh; leaves = leaves text k }
+  kept text k = record { plain = d.plain; fresh = subst (λ n. under old n ≡ nothing) d.same d.fresh; leaves = leaves text k }
 
   pub with_draft : (Work : Files → Type 0) → Work locked → WithDraft bench old Work
   with_draft Work work = record { locked = locked; draft = subst (λ n. IsAsBut n old locked) d.same d.made; work = work }

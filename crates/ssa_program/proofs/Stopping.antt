@@ -1,13 +1,13 @@
 -- A call that stops, told by other words.
 use Rattle.std.specs.Prelude.{◌⊎◌}
-use Rattle.std.proofs.Common.{◌≡◌, ℕ, inl, inr}
+use Rattle.std.proofs.Common.{◌≡◌, ℕ, inl, inr, Some}
 use Rattle.ssa_program.specs.Outcome.{Outcome}
 use Rattle.ssa_program.specs.Stops.{StopsBy, IsNoFault, IsOutcomeUnsaved, IsUnchanged, IsUnloaded, IsUnplaced, IsUnread, IsUnsaved}
-use Rattle.ssa_program.specs.Trouble.{IsDraftTrouble, IsNamed}
+use Rattle.ssa_program.specs.Trouble.{IsDraftTrouble, IsNamed, IsSaveTrouble}
 use Rattle.ssa_disk.specs.Files.{Files, Standing}
 use Rattle.ssa_model.specs.definitions.Json.{Text}
 use Rattle.ssa_program.specs.declared.trouble.Trouble.{Trouble}
-use Rattle.ssa_program.specs.declared.trouble.Trouble.TheVariants.{CannotRead, Load, BenchTooLong, SessionBroken, CannotPrint, SavedUnprinted}
+use Rattle.ssa_program.specs.declared.trouble.Trouble.TheVariants.{CannotRead, CannotWrite, Load, BenchTooLong, OutOfMemory, SessionBroken, CannotPrint, SavedUnprinted}
 
 pub stops : (A B S C D E T F : Type 0) → (A → D) → (B → E) → (S → T) → (C → F) → (t : Trouble) → StopsBy A B S C t → StopsBy D E T F t
 stops A B S C D E T F before reply saved session SessionBroken s = session s
@@ -21,6 +21,13 @@ stops_unlocked A R S C name SessionBroken is a = absurd is
 stops_unlocked A R S C name CannotPrint is a = absurd is
 stops_unlocked A R S C name (SavedUnprinted n) is a = absurd is
 stops_unlocked A R S C name _ is a = a
+
+-- at saving, before the draft has taken its place
+pub stops_unsaved : (A R S C : Type 0) (name text : Text) (t : Trouble) → IsSaveTrouble name text t → (IsUnsaved (Some text) t → A) → StopsBy A R S C t
+stops_unsaved A R S C name text (CannotWrite n) is a = a tt
+stops_unsaved A R S C name text BenchTooLong is a = a is
+stops_unsaved A R S C name text OutOfMemory is a = a tt
+stops_unsaved A R S C name text _ is a = absurd is
 
 -- before the place is found of a bench that is to be made
 pub stops_unplaced : (A R S C : Type 0) (files : Files) (schema object bench : Text) (t : Trouble) → IsUnplaced files schema object bench t → A → StopsBy A R S C t

@@ -1,10 +1,11 @@
 -- What a call leaves on the disk.
-use Rattle.std.specs.Prelude.{◌≡◌, ◌⊎◌, [], Bool, true, false, Option, Some, None}
+use Rattle.std.specs.Prelude.{◌≡◌, ◌≢◌, ◌⊎◌, [], Bool, true, false, Option, Some, None}
 use Rattle.ssa_model.specs.definitions.Json.{Text}
-use Rattle.ssa_disk.specs.Files.{Files, HasBytes, IsAsBut, IsAsButTwo, IsMoved, nothing, under, draft_of}
+use Rattle.ssa_disk.specs.Files.{Files, HasBytes, IsAsBut, IsAsButTwo, IsMoved, nothing, other, under, draft_of}
 
--- the own name of the file that a bench's name leads to
+-- a bench's name leads to a plain file of this own name, or nothing is there
 pub record IsOwnName (files : Files) (own name : Text) : Type 0 where
+  pub plain : under files name ≢ other
   pub is : own ≡ files.own name
   pub leads : files.place own ≡ files.place name
 
@@ -37,8 +38,9 @@ module _ (Stays : Text → Type 0) where
   Leaves (Some text) bench old new = IsPut text (draft_of old bench) bench old new
   Leaves None bench old new = IsCleared (draft_of old bench) old new
 
-  -- what a call leaves that has made its draft, where nothing was
+  -- what a call leaves that has made its draft, where nothing was, beside a plain file or where none is yet
   pub record IsKept (saved : Option Text) (bench : Text) (old new : Files) : Type 0 where
+    pub plain : under old bench ≢ other
     pub fresh : under old (draft_of old bench) ≡ nothing
     pub leaves : Leaves saved bench old new
 

@@ -1,9 +1,9 @@
 //! The draft beside a bench's file: the lock of a call that may save, and what takes the file's place.
-ghost use Rattle.std.specs.Prelude.{◌≡◌, ◌≤◌, ◌++◌, [], Some, true, false, codes, IfErr, IfOk, OnErr, OnOk, length, option_map, string_bytes};
+ghost use Rattle.std.specs.Prelude.{◌≡◌, ◌≢◌, ◌≤◌, ◌++◌, [], Some, true, false, codes, IfErr, IfOk, OnErr, OnOk, length, option_map, string_bytes};
 ghost use Rattle.ssa_model.specs.definitions.BenchText.{depths};
 ghost use Rattle.ssa_model.specs.definitions.RecordedBench.{recorded_text};
 ghost use Rattle.ssa_model.specs.definitions.Limits.{most_bench_bytes};
-ghost use Rattle.ssa_disk.specs.Files.{IsAsBut, IsFound, draft_of, nothing, under};
+ghost use Rattle.ssa_disk.specs.Files.{IsAsBut, IsFound, draft_of, nothing, other, under};
 ghost use Rattle.ssa_program.specs.Kept.{IsPut};
 ghost use Rattle.ssa_program.specs.Stops.{IsUnlocked};
 ghost use Rattle.ssa_program.specs.Trouble.{IsDraftTrouble, IsPlaceTrouble, IsSaveTrouble};
@@ -24,6 +24,7 @@ pub fn place_of<'a, D: Disk>(
     ensures own { IfOk result (λ p. D.tells ≡ true → string_bytes p.name ≡ (D.view disk.now).own name.now) }
     ensures place { IfOk result (λ p. D.tells ≡ true → (D.view disk.now).place (string_bytes p.name) ≡ (D.view disk.now).place name.now) }
     ensures found { IfOk result (λ p. D.tells ≡ true → IsFound (under (D.view disk.now) name.now) (option_map D.number p.found)) }
+    ensures plain { OnOk result (D.tells ≡ true → under (D.view disk.now) name.now ≢ other) }
     ensures trouble { IfErr result (IsPlaceTrouble name.now) }
     ensures unlocked { IfErr result (λ t. D.tells ≡ true → IsUnlocked (under (D.view disk.now) name.now) t) }
 {
@@ -66,6 +67,7 @@ pub fn lock_bench<'a, D: Disk>(
     alloc: Global,
     name: &'a str,
 ) -> Result<Draft<D::Made, D::Found>, Trouble<'a>>
+    ensures plain { OnOk result (D.tells ≡ true → under (D.view disk.old) name.now ≢ other) }
     ensures own { IfOk result (λ d. D.tells ≡ true → string_bytes d.name ≡ draft_of (D.view disk.old) name.now) }
     ensures place { IfOk result (λ d. D.tells ≡ true → (D.view disk.old).place (string_bytes d.place.name) ≡ (D.view disk.old).place name.now) }
     ensures unplaced { IfOk result (λ d. d.is_placed ≡ false) }

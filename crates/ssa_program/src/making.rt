@@ -1,5 +1,5 @@
 //! A bench that is made of its files.
-ghost use Rattle.std.specs.Prelude.{◌≡◌, ◌↔◌, ◌++◌, ◌∷◌, [], Some, Ok, Err, true, IfErr, IfOk, IsTrue, OnOk, option_map, string_bytes};
+ghost use Rattle.std.specs.Prelude.{◌≡◌, ◌≢◌, ◌↔◌, ◌++◌, ◌∷◌, [], Some, Ok, Err, true, IfErr, IfOk, IsTrue, OnOk, option_map, string_bytes};
 ghost use Rattle.std.specs.Io.KnownBytes.{Appends};
 ghost use Rattle.ssa_model.specs.definitions.BenchText.{depths};
 ghost use Rattle.ssa_model.specs.definitions.Files.{bench_with_file, schema_of_file};
@@ -10,7 +10,7 @@ ghost use Rattle.ssa_model.specs.definitions.RecordedBench.{recorded_text};
 ghost use Rattle.ssa_model.specs.definitions.Schema as model;
 ghost use Rattle.ssa_model.specs.definitions.Subcommands.{init_text};
 ghost use Rattle.ssa_json.specs.Readings.{readings};
-ghost use Rattle.ssa_disk.specs.Files.{AreOne, IsFound, under};
+ghost use Rattle.ssa_disk.specs.Files.{AreOne, IsFound, other, under};
 ghost use Rattle.ssa_session.specs.Files.{IsGivenFile};
 ghost use Rattle.ssa_session.specs.declared.files.FileFault.{FileFault};
 ghost use Rattle.ssa_program.specs.Done.{MakeStops, Makes};
@@ -103,6 +103,7 @@ fn place_apart<'a, D: Disk>(
     object: &'a str,
     bench: &'a str,
 ) -> Result<Place<D::Found>, Trouble<'a>>
+    ensures plain { OnOk result (D.tells ≡ true → under (D.view disk.now) bench.now ≢ other) }
     ensures own { IfOk result (λ p. D.tells ≡ true → string_bytes p.name ≡ (D.view disk.now).own bench.now) }
     ensures place { IfOk result (λ p. D.tells ≡ true → (D.view disk.now).place (string_bytes p.name) ≡ (D.view disk.now).place bench.now) }
     ensures apart { OnOk result (D.tells ≡ true → ¬ IsOwnSource (D.view disk.now) schema.now object.now bench.now) }
