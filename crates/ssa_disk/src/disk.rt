@@ -1,6 +1,6 @@
 //! A device of named files.
-ghost use Rattle.std.specs.Prelude.{◌≡◌, Bool, List, ℕ, Some, [], true, IfOk, OnOk, OnErr, string_bytes};
-ghost use Rattle.ssa_disk.specs.Files.{Files, IsAsBut, IsAsButTwo, IsFound, IsOpened, file, nothing, under};
+ghost use Rattle.std.specs.Prelude.{◌≡◌, ◌↔◌, Bool, List, ℕ, Some, [], true, IfOk, OnOk, OnErr, IsTrue, option_map, string_bytes};
+ghost use Rattle.ssa_disk.specs.Files.{AreOne, Files, HasBytes, IsAsBut, IsAsButTwo, IsFound, IsMoved, IsOpened, nothing, other, under};
 ghost use Rattle.ssa_disk.specs.declared.disk.PlaceFault.TheVariants.{OutOfMemory};
 
 use ssa_json::sink::Sink;
@@ -78,14 +78,23 @@ pub trait Disk {
     // What stands there, where it tells.
     ghost view: { Self → Files };
 
+    // The number of the file of which this is known.
+    ghost number: { Self.Found → ℕ };
+
+    // Whether it has failed at removing the file of a name.
+    ghost has_kept: { Self → List ℕ → Bool };
+
     /// The file to which a name leads, with links followed.
     fn find(&self, alloc: Global, name: &str) -> Result<Place<Self::Found>, PlaceFault>
         ensures own { IfOk result (λ p. tells ≡ true → string_bytes p.name ≡ (view self.now).own name.now) }
         ensures place { IfOk result (λ p. tells ≡ true → (view self.now).place (string_bytes p.name) ≡ (view self.now).place name.now) }
-        ensures found { IfOk result (λ p. tells ≡ true → IsFound (under (view self.now) name.now) p.found) };
+        ensures found { IfOk result (λ p. tells ≡ true → IsFound (under (view self.now) name.now) (option_map number p.found)) }
+        ensures no_plain_file { result ≡ Err PlaceFault.NoPlainFile → tells ≡ true → under (view self.now) name.now ≡ other };
 
-    /// Whether a name leads to the file of this place too.
-    fn is_file_of(&self, place: &Place<Self::Found>, name: &str) -> bool;
+    /// Whether a name leads to the file of this place too, as it was found.
+    fn is_file_of(&self, place: &Place<Self::Found>, name: &str) -> Result<bool, DeviceFault>
+        ensures { IfOk result (λ is. tells ≡ true → IsFound (under (view self.now) (string_bytes place.now.name)) (option_map number place.now.found)
+            → IsTrue is ↔ AreOne (under (view self.now) (string_bytes place.now.name)) (under (view self.now) name.now)) };
 
     /// The first bytes of a file, so many at most.
     fn read(&self, alloc: Global, name: &str, most: usize) -> Result<Vec<u8>, ReadFault>
@@ -113,16 +122,19 @@ pub trait Disk {
 
     /// Waits until the device has all that was written to the file that was made under this name.
     fn settle(&mut self, name: &str, made: &mut Self::Made) -> Result<(), DeviceFault>
-        ensures ok { OnOk result (tells ≡ true → (c : List ℕ) → Self.Made.contents made.old ≡ Some c → under (view self.new) name.now ≡ file c) }
+        ensures ok { OnOk result (tells ≡ true → (c : List ℕ) → Self.Made.contents made.old ≡ Some c → HasBytes (under (view self.new) name.now) c) }
         ensures others { IsAsBut name.now (view self.old) (view self.new) };
 
     /// Gives the file of a name another name, in the place of what stood there, and has the device know it.
     fn rename(&mut self, name: &str, to: &str) -> Result<(), DeviceFault>
         ensures ok { OnOk result (under (view self.new) to.now ≡ under (view self.old) name.now) }
+        ensures moved { OnOk result (tells ≡ true → IsMoved (under (view self.new) name.now) (under (view self.new) to.now)) }
         ensures others { IsAsButTwo name.now to.now (view self.old) (view self.new) }
         ensures err { OnErr result (view self.new ≡ view self.old) };
 
     /// Removes the file of a name.
-    fn remove(&mut self, name: &str)
+    fn remove(&mut self, name: &str) -> Result<(), DeviceFault>
+        ensures ok { OnOk result (tells ≡ true → under (view self.new) name.now ≡ nothing) }
+        ensures err { OnErr result (tells ≡ true → has_kept self.new name.now ≡ true) }
         ensures others { IsAsBut name.now (view self.old) (view self.new) };
 }

@@ -1,6 +1,6 @@
 //! The draft beside a file: the lock of who may write, and what takes the file's place.
-ghost use Rattle.std.specs.Prelude.{◌≡◌, ◌++◌, List, ℕ, Some, [], true, false, codes, IfOk, OnOk, OnErr, string_bytes};
-ghost use Rattle.ssa_disk.specs.Files.{IsAsBut, IsAsButTwo, file, nothing, under};
+ghost use Rattle.std.specs.Prelude.{◌≡◌, ◌++◌, ◌⊎◌, List, ℕ, Some, [], true, false, codes, IfOk, OnOk, OnErr, string_bytes};
+ghost use Rattle.ssa_disk.specs.Files.{HasBytes, IsAsBut, IsAsButTwo, IsMoved, nothing, under};
 ghost use Rattle.ssa_disk.specs.declared.draft.TakeFault.TheVariants.{OutOfMemory};
 
 use crate::disk::{Disk, MakeFault, Place};
@@ -90,7 +90,8 @@ pub fn put<D: Disk>(disk: &mut D, draft: &mut Draft<D::Made, D::Found>) -> Resul
     ensures placed { OnOk result (draft.new.is_placed ≡ true) }
     ensures unplaced { OnErr result (draft.new.is_placed ≡ draft.old.is_placed) }
     ensures saved { OnOk result (D.tells ≡ true → (c : List ℕ) → D.Made.contents draft.old.made ≡ Some c
-        → under (D.view disk.new) (string_bytes draft.old.place.name) ≡ file c) }
+        → HasBytes (under (D.view disk.new) (string_bytes draft.old.place.name)) c) }
+    ensures moved { OnOk result (D.tells ≡ true → IsMoved (under (D.view disk.new) (string_bytes draft.old.name)) (under (D.view disk.new) (string_bytes draft.old.place.name))) }
     ensures others { OnOk result (IsAsButTwo (string_bytes draft.old.name) (string_bytes draft.old.place.name) (D.view disk.old) (D.view disk.new)) }
     ensures err { OnErr result (IsAsBut (string_bytes draft.old.name) (D.view disk.old) (D.view disk.new)) }
 {
@@ -103,9 +104,11 @@ pub fn put<D: Disk>(disk: &mut D, draft: &mut Draft<D::Made, D::Found>) -> Resul
 /// Ends the draft: it is removed where it has not taken the file's place.
 pub fn end<D: Disk>(disk: &mut D, draft: Draft<D::Made, D::Found>)
     ensures placed { draft.is_placed ≡ true → D.view disk.new ≡ D.view disk.old }
+    ensures unplaced { draft.is_placed ≡ false → D.tells ≡ true
+        → (under (D.view disk.new) (string_bytes draft.name) ≡ nothing) ⊎ (D.has_kept disk.new (string_bytes draft.name) ≡ true) }
     ensures others { IsAsBut (string_bytes draft.name) (D.view disk.old) (D.view disk.new) }
 {
     if !draft.is_placed {
-        disk.remove(draft.name.as_str());
+        let _removed = disk.remove(draft.name.as_str());
     }
 }

@@ -94,6 +94,14 @@ impl<F: Write> Sink for MadeFile<F> {
     }
 }
 
+// Whether a name that cannot be looked at for this reason leads nowhere.
+fn leads_nowhere(kind: ErrorKind) -> bool {
+    matches!(
+        kind,
+        ErrorKind::NotFound | ErrorKind::NotADirectory | ErrorKind::FilesystemLoop
+    )
+}
+
 // The name of the file that the name leads to, where it is a link.
 fn own_name<T: Files>(rt: &T, alloc: Global, name: &str) -> Result<String, PlaceFault> {
     let is_link = match fs::symlink_metadata(rt, name) {
@@ -107,7 +115,8 @@ fn own_name<T: Files>(rt: &T, alloc: Global, name: &str) -> Result<String, Place
     match rt.canonicalize(alloc, name) {
         Ok(path) => Ok(path.into_string()),
         Err(fault) if fault.kind() == ErrorKind::OutOfMemory => Err(PlaceFault::OutOfMemory),
-        Err(_) => Err(PlaceFault::NoPlainFile),
+        Err(fault) if leads_nowhere(fault.kind()) => Err(PlaceFault::NoPlainFile),
+        Err(_) => Err(PlaceFault::CannotRead),
     }
 }
 
@@ -161,6 +170,10 @@ impl<'a, T: Files> Disk for OfFiles<'a, T> {
 
     ghost view = { λ _. untold };
 
+    ghost number = { λ _. 0 };
+
+    ghost has_kept = { λ _ _. false };
+
     fn find(&self, alloc: Global, name: &str) -> Result<Place<Metadata>, PlaceFault> {
         let own = own_name(self.rt, alloc, name)?;
         match fs::metadata(self.rt, own.as_str()) {
@@ -177,13 +190,19 @@ impl<'a, T: Files> Disk for OfFiles<'a, T> {
         }
     }
 
-    fn is_file_of(&self, place: &Place<Metadata>, name: &str) -> bool {
-        match (&place.found, fs::metadata(self.rt, name)) {
-            (Some(own), Ok(other)) => {
-                place.name.as_str() == name
-                    || own.ino() != 0 && own.ino() == other.ino() && own.dev() == other.dev()
+    fn is_file_of(&self, place: &Place<Metadata>, name: &str) -> Result<bool, DeviceFault> {
+        let Some(own) = &place.found else {
+            return Ok(false);
+        };
+        if place.name.as_str() == name {
+            return Ok(true);
+        }
+        match fs::metadata(self.rt, name) {
+            Ok(second) => {
+                Ok(own.ino() != 0 && own.ino() == second.ino() && own.dev() == second.dev())
             }
-            _ => false,
+            Err(fault) if leads_nowhere(fault.kind()) => Ok(false),
+            Err(_) => Err(DeviceFault),
         }
     }
 
@@ -250,7 +269,10 @@ impl<'a, T: Files> Disk for OfFiles<'a, T> {
         Ok(())
     }
 
-    fn remove(&mut self, name: &str) {
-        let _removed = fs::remove_file(self.rt, name);
+    fn remove(&mut self, name: &str) -> Result<(), DeviceFault> {
+        match fs::remove_file(self.rt, name) {
+            Ok(()) => Ok(()),
+            Err(_) => Err(DeviceFault),
+        }
     }
 }

@@ -1,52 +1,24 @@
 -- What a call leaves on the disk, by what its steps leave.
-use Rattle.std.proofs.Common.{◌≡◌, ◌∙◌, sym, subst, Bool, true, Option, Some, None}
+use Rattle.std.specs.Prelude.{◌≢◌, ◌⊎◌}
+use Rattle.std.proofs.Common.{◌≡◌, ◌∙◌, sym, subst, Bool, true, false, Option, Some, None}
 use Rattle.ssa_model.specs.definitions.Json.{Text}
-use Rattle.ssa_disk.specs.Files.{Files, IsAsBut, draft_of}
+use Rattle.ssa_disk.specs.Files.{Files, HasBytes, IsAsBut, IsMoved, draft_of, nothing, other, under}
+use Rattle.ssa_disk.specs.Steps.{joined}
 use Rattle.ssa_program.specs.Done.{ComesTo, EndsAs, WithDraft}
-use Rattle.ssa_program.specs.Kept.{IsKept, IsKeptBy, IsPut}
+use Rattle.ssa_program.specs.Kept.{IsKept, IsKeptBy, IsPut, Leaves}
 use Rattle.ssa_program.specs.Outcome.{Outcome}
 use Rattle.ssa_program.specs.Stops.{IsSaid}
 use Rattle.ssa_program.specs.declared.status.Status.{Status}
 
--- a call that has changed nothing has left all but the draft
-pub untouched : (n : Text) (old new : Files) → new ≡ old → IsAsBut n old new
-untouched n old new same = record {
-  own = λ i. (same i).own;
-  place = λ i. (same i).place;
-  others = λ p elsewhere. λ i. (same i).at p;
-}
-
-pub joined : (n : Text) (old mid new : Files) → IsAsBut n old mid → IsAsBut n mid new → IsAsBut n old new
-joined n old mid new a b = record {
-  own = b.own ∙ a.own;
-  place = b.place ∙ a.place;
-  others = λ p elsewhere. b.others p (λ here. elsewhere (here ∙ (λ i. a.place i n))) ∙ a.others p elsewhere;
-}
-
--- the draft is made and the text is put, under these names or others that are the same
-pub put_after : (text draft draft_name place place_name : Text) (old locked new : Files) → draft ≡ draft_name → place ≡ place_name
-    → IsAsBut draft old locked → IsPut text draft place locked new → IsPut text draft_name place_name old new
-put_after text draft draft_name place place_name old locked new same_draft same_place a k = record {
-  saved = (λ i. new.at (new.place (sym same_place i))) ∙ k.saved;
-  others = record {
-    own = k.others.own ∙ a.own;
-    place = k.others.place ∙ a.place;
-    others = λ p not_draft not_place.
-        k.others.others p
-        (λ is. not_draft (is ∙ (λ i. a.place i draft) ∙ (λ i. old.place (same_draft i))))
-        (λ is. not_place (is ∙ (λ i. a.place i place) ∙ (λ i. old.place (same_place i))))
-        ∙ a.others p (λ is. not_draft (is ∙ (λ i. old.place (same_draft i))));
-  };
-}
-
--- the draft is made, the text is put, and the draft has gone with it
-pub saved : (text bench draft place : Text) (old locked new : Files) → draft ≡ draft_of old bench → old.place place ≡ old.place bench
+-- the draft is made, and the text is put
+put_after : (text bench draft place : Text) (old locked new : Files) → draft ≡ draft_of old bench → old.place place ≡ old.place bench
     → IsAsBut draft old locked → IsPut text draft place locked new → IsPut text (draft_of old bench) bench old new
-saved text bench draft place old locked new same leads a k =
+put_after text bench draft place old locked new same leads a k =
     let places = k.others.place ∙ a.place in
     let here = (λ i. places i bench) ∙ sym leads ∙ sym (λ i. places i place) in
     record {
-      saved = (λ i. new.at (here i)) ∙ k.saved;
+      saved = subst (λ p. HasBytes (new.at p) text) (sym here) k.saved;
+      moved = subst (λ d. IsMoved (under new d) (under new bench)) same (subst (λ p. IsMoved (under new draft) (new.at p)) (sym here) k.moved);
       others = record {
         own = k.others.own ∙ a.own;
         place = places;
@@ -58,51 +30,70 @@ saved text bench draft place old locked new same leads a k =
       };
     }
 
-pub left : (bench draft : Text) (old locked last new : Files) → draft ≡ draft_of old bench
-    → IsAsBut draft old locked → IsAsBut draft locked last → IsAsBut draft last new → IsAsBut (draft_of old bench) old new
-left bench draft old locked last new same a b c =
-    subst (λ d. IsAsBut d old new) same (joined draft old last new (joined draft old locked last a b) c)
+-- A draft of a bench is made, so that the files are locked, and after the last step on them it is ended.
+pub record IsEnded (Stays : Text → Type 0) (placed : Bool) (bench draft place : Text) (old locked last new : Files) : Type 0 where
+  pub plain : under old bench ≢ other
+  pub same : draft ≡ draft_of old bench
+  pub leads : old.place place ≡ old.place bench
+  pub fresh : under old draft ≡ nothing
+  pub made : IsAsBut draft old locked
+  pub stays : placed ≡ true → new ≡ last
+  pub goes : placed ≡ false → (under new draft ≡ nothing) ⊎ Stays draft
+  pub ended : IsAsBut draft last new
 
-pub kept : (text : Option Text) (placed : Bool) (bench draft place : Text) (old locked last new : Files)
-    → draft ≡ draft_of old bench → old.place place ≡ old.place bench → IsAsBut draft old locked
-    → IsKeptBy text placed draft place locked last → (placed ≡ true → new ≡ last) → IsAsBut draft last new
-    → IsKept text bench old new
-kept None placed bench draft place old locked last new same leads a k stays ended = left bench draft old locked last new same a k ended
-kept (Some text) placed bench draft place old locked last new same leads a k stays ended =
-    subst (λ f. IsPut text (draft_of old bench) bench old f) (sym (stays k.0)) (saved text bench draft place old locked last same leads a k.1)
-
--- the same of what a call comes to on the files with the draft
-pub comes : (Is : Files → Outcome → Type 0) (Writes : Text → Type 0) (said placed : Bool) (bench draft place : Text) (old locked last new : Files)
-    → draft ≡ draft_of old bench → old.place place ≡ old.place bench → IsAsBut draft old locked
-    → (placed ≡ true → new ≡ last) → IsAsBut draft last new
-    → ComesTo (Is locked) (IsSaid said (λ text. IsKeptBy text placed draft place locked last)) Writes
-    → WithDraft bench old (λ files. ComesTo (Is files) (IsSaid said (λ text. IsKept text bench old new)) Writes)
-comes Is Writes said placed bench draft place old locked last new same leads a stays ended e = record {
-  locked = locked;
-  draft = subst (λ d. IsAsBut d old locked) same a;
-  work = record {
-    outcome = e.outcome;
-    is = e.is;
-    keeps = (e.keeps.0, kept e.outcome.saved placed bench draft place old locked last new same leads a e.keeps.1 stays ended);
-    writes = e.writes;
-  };
+-- the same where its name at the end is the one with which it was made
+pub ended_as : (Stays : Text → Type 0) (placed : Bool) (bench draft ended_name place : Text) (old locked last new : Files) → ended_name ≡ draft
+    → under old bench ≢ other → draft ≡ draft_of old bench → old.place place ≡ old.place bench → under old draft ≡ nothing → IsAsBut draft old locked
+    → (placed ≡ true → new ≡ last) → (placed ≡ false → (under new ended_name ≡ nothing) ⊎ Stays ended_name) → IsAsBut ended_name last new
+    → IsEnded Stays placed bench draft place old locked last new
+ended_as Stays placed bench draft ended_name place old locked last new name plain same leads fresh made stays goes ended = record {
+  plain = plain;
+  same = same;
+  leads = leads;
+  fresh = fresh;
+  made = made;
+  stays = stays;
+  goes = λ off. subst (λ n. (under new n ≡ nothing) ⊎ Stays n) name (goes off);
+  ended = subst (λ n. IsAsBut n last new) name ended;
 }
 
-pub ends : (Is : Files → Outcome → Type 0) (Writes : Text → Type 0) (s : Status) (placed : Bool) (bench draft place : Text) (old locked last new : Files)
-    → draft ≡ draft_of old bench → old.place place ≡ old.place bench → IsAsBut draft old locked
-    → (placed ≡ true → new ≡ last) → IsAsBut draft last new
-    → EndsAs (Is locked) (λ text. IsKeptBy text placed draft place locked last) Writes s
-    → WithDraft bench old (λ files. EndsAs (Is files) (λ text. IsKept text bench old new) Writes s)
-ends Is Writes s placed bench draft place old locked last new same leads a stays ended e = record {
-  locked = locked;
-  draft = subst (λ d. IsAsBut d old locked) same a;
-  work = record {
+module _ (Stays : Text → Type 0) (placed : Bool) (bench draft place : Text) (old locked last new : Files)
+    (d : IsEnded Stays placed bench draft place old locked last new) where
+  leaves : (text : Option Text) → IsKeptBy text placed draft place locked last → Leaves Stays text bench old new
+  leaves None k = record {
+    gone = subst (λ n. (under new n ≡ nothing) ⊎ Stays n) d.same (d.goes k.0);
+    others = subst (λ n. IsAsBut n old new) d.same (joined draft old last new (joined draft old locked last d.made k.1) d.ended);
+  }
+  leaves (Some text) k =
+      subst (λ f. IsPut text (draft_of old bench) bench old f) (sym (d.stays k.0))
+          (put_after text bench draft place old locked last d.same d.leads d.made k.1)
+
+  pub kept : (text : Option Text) → IsKeptBy text placed draft place locked last → IsKept Stays text bench old new
+  kept text k = record { plain = d.plain; fresh = subst (λ n. under old n ≡ nothing) d.same d.fresh; leaves = leaves text k }
+
+  pub with_draft : (Work : Files → Type 0) → Work locked → WithDraft bench old Work
+  with_draft Work work = record { locked = locked; draft = subst (λ n. IsAsBut n old locked) d.same d.made; work = work }
+
+  -- the same of what a call comes to on the files with the draft
+  pub comes : (Is : Files → Outcome → Type 0) (Writes : Text → Type 0) (said : Bool)
+      → ComesTo (Is locked) (IsSaid said (λ text. IsKeptBy text placed draft place locked last)) Writes
+      → WithDraft bench old (λ files. ComesTo (Is files) (IsSaid said (λ text. IsKept Stays text bench old new)) Writes)
+  comes Is Writes said e = with_draft (λ files. ComesTo (Is files) (IsSaid said (λ text. IsKept Stays text bench old new)) Writes) (record {
+    outcome = e.outcome;
+    is = e.is;
+    keeps = (e.keeps.0, kept e.outcome.saved e.keeps.1);
+    writes = e.writes;
+  })
+
+  pub ends : (Is : Files → Outcome → Type 0) (Writes : Text → Type 0) (s : Status)
+      → EndsAs (Is locked) (λ text. IsKeptBy text placed draft place locked last) Writes s
+      → WithDraft bench old (λ files. EndsAs (Is files) (λ text. IsKept Stays text bench old new) Writes s)
+  ends Is Writes s e = with_draft (λ files. EndsAs (Is files) (λ text. IsKept Stays text bench old new) Writes s) (record {
     comes_to = record {
       outcome = e.comes_to.outcome;
       is = e.comes_to.is;
-      keeps = kept e.comes_to.outcome.saved placed bench draft place old locked last new same leads a e.comes_to.keeps stays ended;
+      keeps = kept e.comes_to.outcome.saved e.comes_to.keeps;
       writes = e.comes_to.writes;
     };
     status = e.status;
-  };
-}
+  })

@@ -11,9 +11,9 @@ use Rattle.ssa_disk.specs.Files.{Files, IsAsBut, draft_of, under}
 use Rattle.ssa_session.specs.Effects.{RunsAll, RunsPartly, RunsWhole}
 use Rattle.ssa_words.specs.declared.call.Call.{Call}
 use Rattle.ssa_words.specs.declared.call.Call.TheVariants.{Init, Apply, Update, Strip, Undo, Redo, Show, Owners, Log, Session}
-use Rattle.ssa_program.specs.Kept.{IsKept}
-use Rattle.ssa_program.specs.Outcome.{Outcome, IsAnswered, IsBenchAt, IsChanged, IsMade, IsSeen}
-use Rattle.ssa_program.specs.Stops.{Stops, IsSaid, IsUnchanged, IsUnloaded, IsUnmade, IsUnsaved}
+use Rattle.ssa_program.specs.Kept.{IsKept, IsUnsavedBy}
+use Rattle.ssa_program.specs.Outcome.{Outcome, IsAnswered, IsBenchAt, IsChanged, IsMade, IsOwnSource, IsSeen}
+use Rattle.ssa_program.specs.Stops.{Stops, IsOutcomeUnsaved, IsSaid, IsUnchanged, IsUnloaded, IsUnlocked, IsUnplaced, IsUnread, IsUnsaved}
 use Rattle.ssa_program.specs.Telling.{IsCut}
 use Rattle.ssa_program.specs.Trouble.{IsNamed}
 use Rattle.ssa_program.specs.declared.status.Status.{Status}
@@ -56,8 +56,8 @@ pub record IsHeld (files : Files) (bench : Text) (Runs : Bench → Bench → Typ
   pub after : Bench
   pub runs : Runs held after
 
--- The files before and after, and the device where the replies stand.
-module _ (old new : Files) {W : Type 0} (contents : W → Option Text) (has_failed : W → Bool) (writer writer_new : W) where
+-- The files before and after, whether their device has failed at removing the file of a name, and the device where the replies stand.
+module _ (old new : Files) (Stays : Text → Type 0) {W : Type 0} (contents : W → Option Text) (has_failed : W → Bool) (writer writer_new : W) where
   abbrev pub Writes : Text → Type 0
   Writes = Appends (contents writer) (contents writer_new)
 
@@ -69,11 +69,7 @@ module _ (old new : Files) {W : Type 0} (contents : W → Option Text) (has_fail
   Unsaid = writer_new ≡ writer
 
   abbrev pub Keeps : Text → Option Text → Type 0
-  Keeps bench saved = IsKept saved bench old new
-
-  -- all but the bench's draft is as before
-  abbrev pub IsLeft : Text → Type 0
-  IsLeft bench = IsAsBut (draft_of old bench) old new
+  Keeps bench saved = IsKept Stays saved bench old new
 
   -- nothing is saved, nor made
   abbrev pub Spares : Option Text → Type 0
@@ -86,7 +82,7 @@ module _ (old new : Files) {W : Type 0} (contents : W → Option Text) (has_fail
 
   abbrev pub ChangeStops : Text → (Files → Outcome → Type 0) → Trouble → Type 0
   ChangeStops bench Is t = Stops
-      (IsLeft bench × Unsaid × WithDraft bench old (λ files. IsUnchanged (under files bench) (Is files) t))
+      (Unsaid × IsUnsavedBy Stays (IsUnlocked (under old bench) t) (WithDraft bench old (λ files. IsUnchanged (under files bench) (Is files) t)) bench old new)
       (λ said. WithDraft bench old (λ files. ComesTo (Is files) (IsSaid said (Keeps bench)) Cuts))
       ⊥ t
 
@@ -104,12 +100,19 @@ module _ (old new : Files) {W : Type 0} (contents : W → Option Text) (has_fail
   -- ---- the making of a bench
 
   abbrev pub Makes : Text → Text → Text → ℕ → Status → Type 0
-  Makes schema object bench depth s = EndsAs (IsMade old schema object depth) (Keeps bench) Writes s
+  Makes schema object bench depth s = EndsAs (IsMade old schema object bench depth) (Keeps bench) Writes s
+
+  -- It is not made in that place, or its files, which are others, are not read, or it is not saved.
+  abbrev pub IsUnmade : Text → Text → Text → ℕ → Trouble → Type 0
+  IsUnmade schema object bench depth t = ((new ≡ old) × IsUnplaced old schema object bench t)
+      ⊎ ((¬ IsOwnSource old schema object bench)
+      × (((new ≡ old) × IsUnread old schema object depth t)
+      ⊎ IsUnsavedBy Stays (IsUnlocked (under old bench) t) (IsOutcomeUnsaved (IsMade old schema object bench depth) t) bench old new))
 
   abbrev pub MakeStops : Text → Text → Text → ℕ → Trouble → Type 0
   MakeStops schema object bench depth t = Stops
-      (IsLeft bench × Unsaid × IsUnmade old schema object depth t)
-      (λ said. ComesTo (IsMade old schema object depth) (IsSaid said (Keeps bench)) Cuts)
+      (Unsaid × IsUnmade schema object bench depth t)
+      (λ said. ComesTo (IsMade old schema object bench depth) (IsSaid said (Keeps bench)) Cuts)
       ⊥ t
 
   -- ---- a session, by what was left to be read before and after it, and whether that device has failed
@@ -128,10 +131,10 @@ module _ (old new : Files) {W : Type 0} (contents : W → Option Text) (has_fail
     -- it is not saved: before it began, after its end, or because it broke off
     abbrev pub HoldStops : Text → Trouble → Type 0
     HoldStops bench t = Stops
-        (IsLeft bench × WithDraft bench old (λ files. (IsUnloaded (under files bench) t × Unsaid)
-        ⊎ IsHeld files bench (λ held after. Ends held after × IsUnsaved (Some (recorded_text depths after)) t)))
+        (IsUnsavedBy Stays (IsUnlocked (under old bench) t × Unsaid) (WithDraft bench old (λ files. (IsUnloaded (under files bench) t × Unsaid)
+        ⊎ IsHeld files bench (λ held after. Ends held after × IsUnsaved (Some (recorded_text depths after)) t))) bench old new)
         (λ said. ⊥)
-        (IsLeft bench × WithDraft bench old (λ files. IsHeld files bench Breaks)) t
+        (Keeps bench None × WithDraft bench old (λ files. IsHeld files bench Breaks)) t
 
     -- ---- a call
 

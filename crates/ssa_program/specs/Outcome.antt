@@ -1,5 +1,5 @@
 -- What the program does on a disk, by the words of its call and what stands under the names in them.
-use Rattle.std.specs.Prelude.{◌≡◌, ℕ, ◌+◌, Bool, true, false, Option, Some, None, Result, Ok, if◌then◌else◌}
+use Rattle.std.specs.Prelude.{◌≡◌, ◌⊎◌, ℕ, ◌+◌, Bool, true, false, Option, Some, None, Result, Ok, if◌then◌else◌}
 use Rattle.ssa_model.specs.definitions.Json.{Text}
 use Rattle.ssa_model.specs.definitions.Limits.{most_input_bytes, most_bench_bytes}
 use Rattle.ssa_model.specs.definitions.BenchText.{depths}
@@ -12,7 +12,7 @@ use Rattle.ssa_model.specs.definitions.Subcommands as subcommands
 use Rattle.ssa_model.specs.definitions.Subcommands.{asked_answer, init_text}
 use Rattle.ssa_json.specs.Readings.{readings}
 use Rattle.ssa_bench.specs.Loading.{Loads}
-use Rattle.ssa_disk.specs.Files.{Files, Standing, IsOpened, under}
+use Rattle.ssa_disk.specs.Files.{Files, Standing, AreOne, IsOpened, under}
 use Rattle.ssa_lines.specs.declared.loading.LoadFault.{LoadFault}
 use Rattle.ssa_words.specs.declared.call.Call.{Call}
 use Rattle.ssa_words.specs.declared.call.Call.TheVariants.{Apply, Update}
@@ -88,17 +88,30 @@ pub record IsChanged (files : Files) (bench file : Text) (call : Call) (o : Outc
   pub is_asked : IsAskedBy call object asked
   pub answered : IsAnswered files bench asked o
 
--- a bench of this depth is made of a schema file and an object file
-pub record IsMade (files : Files) (schema object : Text) (depth : ℕ) (o : Outcome) : Type 0 where
+-- the bench of this depth that a schema file and an object file make
+pub record IsMadeOf (files : Files) (schema object : Text) (depth : ℕ) (made : Bench) : Type 0 where
   pub schema_bytes : Text
   pub is_schema : IsInput (under files schema) schema_bytes
   pub schema_read : Schema
   pub is_schema_read : schema_of_file readings schema_bytes ≡ Ok schema_read
   pub object_bytes : Text
   pub is_object : IsInput (under files object) object_bytes
-  pub made : Bench
   pub is_made : bench_with_file readings depth schema_read object_bytes ≡ Ok made
-  pub outcome : o ≡ record { line = init_text made; status = Done; saved = Some (recorded_text depths made) }
+
+-- the bench's name leads to the file of the schema, or of the object
+abbrev pub IsOwnSource : Files → Text → Text → Text → Type 0
+IsOwnSource files schema object bench = AreOne (under files bench) (under files schema) ⊎ AreOne (under files bench) (under files object)
+
+-- what a call comes to that makes this bench
+abbrev pub made_outcome : Bench → Outcome
+made_outcome made = record { line = init_text made; status = Done; saved = Some (recorded_text depths made) }
+
+-- a bench is made of other files
+pub record IsMade (files : Files) (schema object bench : Text) (depth : ℕ) (o : Outcome) : Type 0 where
+  pub apart : ¬ IsOwnSource files schema object bench
+  pub made : Bench
+  pub is_made : IsMadeOf files schema object depth made
+  pub outcome : o ≡ made_outcome made
 
 -- the bench that is there is looked at, and nothing is saved
 pub record IsSeen (files : Files) (bench : Text) (asked : subcommands.Asked) (o : Outcome) : Type 0 where

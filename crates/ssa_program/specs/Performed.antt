@@ -13,15 +13,15 @@ use Rattle.ssa_program.specs.Watching.{IsBegun}
 use Rattle.ssa_program.specs.declared.status.Status.{Status}
 use Rattle.ssa_program.specs.declared.trouble.Trouble.{Trouble}
 
--- The files before and after, the device where the replies stand, that for people, what is left of the input, and whether its device has failed.
-module _ (old new : Files) {W E : Type 0} (contents : W → Option Text) (has_failed : W → Bool) (writer writer_new : W)
+-- The files before and after, whether their device has failed at removing the file of a name, the device where the replies stand, that for people, what is left of the input, and whether its device has failed.
+module _ (old new : Files) (Stays : Text → Type 0) {W E : Type 0} (contents : W → Option Text) (has_failed : W → Bool) (writer writer_new : W)
     (told : E → Option Text) (is_deaf : E → Bool) (errors errors_new : E) (left left_after : Option Text) (ReaderFailed : Type 0) where
   -- the call came to its outcome; for people there are notes, behind what a session told them while it lasted
   pub record CameToEnd (call : Call) (code : ℕ) : Type 0 where
     pub errors_begun : E
     pub begun : IsBegun told is_deaf errors errors_begun call
     pub status : Status
-    pub done : IsDone old new contents has_failed writer writer_new left left_after ReaderFailed call status
+    pub done : IsDone old new Stays contents has_failed writer writer_new left left_after ReaderFailed call status
     pub code_is : code ≡ status_code status
     pub noted : IsNoted told is_deaf errors_begun errors_new
 
@@ -29,7 +29,7 @@ module _ (old new : Files) {W E : Type 0} (contents : W → Option Text) (has_fa
   pub record HasStopped (call : Call) (code : ℕ) : Type 0 where
     pub trouble : Trouble
     pub writer_then : W
-    pub stopped : IsStopped old new contents has_failed writer writer_then left left_after ReaderFailed call trouble
+    pub stopped : IsStopped old new Stays contents has_failed writer writer_then left left_after ReaderFailed call trouble
     pub named : IsNamedBy call trouble
     pub errors_begun : E
     pub begun : IsBegun told is_deaf errors errors_begun call

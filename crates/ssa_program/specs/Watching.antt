@@ -25,12 +25,16 @@ module _ {E : Type 0} (told : E → Option Text) (is_deaf : E → Bool) where
   IsBegun old new (Session bench) = IsWarned old new bench.now
   IsBegun old new _ = new ≡ old
 
-  -- The watch holds the same device and name. It tells nothing, or its line where it has not told it before.
+  -- between two states of the watch nothing is told, or its line where it was not told before
+  abbrev pub Says : LengthWatch E → LengthWatch E → Type 0
+  Says u v = ((v.errors.now ≡ u.errors.now) × (v.is_told ≡ u.is_told))
+      ⊎ ((u.is_told ≡ false) × ((v.is_told ≡ true) × IsTold told is_deaf u.errors.now v.errors.now (too_long_line u.name.now ++ line_feed ∷ [])))
+
+  -- The watch holds the same device and name, and says no more than that.
   pub record GoesOn (u v : LengthWatch E) : Type 0 where
     pub device : v.errors.ghost_name ≡ u.errors.ghost_name
     pub name : v.name ≡ u.name
-    pub says : ((v.errors.now ≡ u.errors.now) × (v.is_told ≡ u.is_told))
-        ⊎ ((u.is_told ≡ false) × ((v.is_told ≡ true) × IsTold told is_deaf u.errors.now v.errors.now (too_long_line u.name.now ++ line_feed ∷ [])))
+    pub says : Says u v
 
   pub stays : (u : LengthWatch E) → GoesOn u u
   stays u = record { device = refl; name = refl; says = inl (refl, refl) }
@@ -38,12 +42,7 @@ module _ {E : Type 0} (told : E → Option Text) (is_deaf : E → Bool) where
   pub goes_on : (u v w : LengthWatch E) → GoesOn u v → GoesOn v w → GoesOn u w
   goes_on u v w a b = record { device = b.device ∙ a.device; name = b.name ∙ a.name; says = by a.says b.says }
     where
-      by : ((v.errors.now ≡ u.errors.now) × (v.is_told ≡ u.is_told))
-          ⊎ ((u.is_told ≡ false) × ((v.is_told ≡ true) × IsTold told is_deaf u.errors.now v.errors.now (too_long_line u.name.now ++ line_feed ∷ [])))
-          → ((w.errors.now ≡ v.errors.now) × (w.is_told ≡ v.is_told))
-          ⊎ ((v.is_told ≡ false) × ((w.is_told ≡ true) × IsTold told is_deaf v.errors.now w.errors.now (too_long_line v.name.now ++ line_feed ∷ [])))
-          → ((w.errors.now ≡ u.errors.now) × (w.is_told ≡ u.is_told))
-          ⊎ ((u.is_told ≡ false) × ((w.is_told ≡ true) × IsTold told is_deaf u.errors.now w.errors.now (too_long_line u.name.now ++ line_feed ∷ [])))
+      by : Says u v → Says v w → Says u w
       by (inl (e, t)) (inl (f, s)) = inl (f ∙ e, s ∙ t)
       by (inl (e, t)) (inr (n, (y, line))) = inr (
         sym t ∙ n,

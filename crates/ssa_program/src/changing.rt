@@ -12,7 +12,7 @@ ghost use Rattle.ssa_disk.specs.Files.{IsAsBut, under};
 ghost use Rattle.ssa_path.specs.Subresources.{part_view};
 ghost use Rattle.ssa_program.specs.Asked.{is_asked_accepted};
 ghost use Rattle.ssa_program.specs.Done.{ChangeStops, Changes, ComesTo, EndsAs, LookStops, Looks};
-ghost use Rattle.ssa_program.specs.Kept.{IsKeptBy};
+ghost use Rattle.ssa_program.specs.Kept.{IsBlank, IsKeptBy};
 ghost use Rattle.ssa_program.specs.Outcome.{IsAnswered, IsAskedBy, IsChange, IsChanged, IsSeen, part_of, saved_for};
 ghost use Rattle.ssa_program.specs.Status.{status_for};
 ghost use Rattle.ssa_program.specs.Stops.{IsNoFault, IsSaid, IsUnchanged, IsUnsaved, Stops};
@@ -88,10 +88,10 @@ pub(crate) fn change_bench<'a, D: Disk, W: Sink>(
     call: &Call<'a>,
 ) -> Result<Status, Trouble<'a>>
     requires { IsChange call.now }
-    ensures done { IfOk result (λ s. D.tells ≡ true → Changes (D.view disk.old) (D.view disk.new) W.contents W.has_failed writer.old writer.new
+    ensures done { IfOk result (λ s. D.tells ≡ true → Changes (D.view disk.old) (D.view disk.new) (λ n. D.has_kept disk.new n ≡ true) W.contents W.has_failed writer.old writer.new
         bench.now (λ files. IsChanged files bench.now file.now call.now) s) }
     ensures named { IfErr result (IsNamed bench.now file.now file.now) }
-    ensures stopped { IfErr result (λ t. D.tells ≡ true → ChangeStops (D.view disk.old) (D.view disk.new) W.contents W.has_failed writer.old writer.new
+    ensures stopped { IfErr result (λ t. D.tells ≡ true → ChangeStops (D.view disk.old) (D.view disk.new) (λ n. D.has_kept disk.new n ≡ true) W.contents W.has_failed writer.old writer.new
         bench.now (λ files. IsChanged files bench.now file.now call.now) t) }
 {
     let mut draft = lock_bench(disk, alloc, bench)?;
@@ -114,13 +114,13 @@ fn change_locked<'a, D: Disk, W: Sink>(
 ) -> Result<Status, Trouble<'a>>
     requires { IsChange call.now }
     ensures own { draft.new.name ≡ draft.old.name }
-    ensures done { IfOk result (λ s. D.tells ≡ true → D.Made.contents draft.old.made ≡ Some [] → EndsAs
+    ensures done { IfOk result (λ s. D.tells ≡ true → IsBlank (D.Made.contents draft.old.made) draft.old.is_placed → EndsAs
         (IsChanged (D.view disk.old) name.now file.now call.now)
         (λ saved. IsKeptBy saved draft.new.is_placed (string_bytes draft.old.name) (string_bytes draft.old.place.name) (D.view disk.old) (D.view disk.new))
         (Appends (W.contents writer.old) (W.contents writer.new)) s) }
     ensures named { IfErr result (IsNamed name.now file.now file.now) }
-    ensures stopped { IfErr result (λ t. D.tells ≡ true → D.Made.contents draft.old.made ≡ Some [] → Stops
-        (IsAsBut (string_bytes draft.old.name) (D.view disk.old) (D.view disk.new) × ((writer.new ≡ writer.old) × IsUnchanged (under (D.view disk.old) name.now) (IsChanged (D.view disk.old) name.now file.now call.now) t))
+    ensures stopped { IfErr result (λ t. D.tells ≡ true → IsBlank (D.Made.contents draft.old.made) draft.old.is_placed → Stops
+        (IsKeptBy None draft.new.is_placed (string_bytes draft.old.name) (string_bytes draft.old.place.name) (D.view disk.old) (D.view disk.new) × ((writer.new ≡ writer.old) × IsUnchanged (under (D.view disk.old) name.now) (IsChanged (D.view disk.old) name.now file.now call.now) t))
         (λ said. ComesTo (IsChanged (D.view disk.old) name.now file.now call.now) (IsSaid said
         (λ saved. IsKeptBy saved draft.new.is_placed (string_bytes draft.old.name) (string_bytes draft.old.place.name) (D.view disk.old) (D.view disk.new)))
         (IsCut W.contents W.has_failed writer.old writer.new))
@@ -143,10 +143,10 @@ pub(crate) fn move_bench<'a, D: Disk, W: Sink>(
     name: &'a str,
     asked: Asked<'_>,
 ) -> Result<Status, Trouble<'a>>
-    ensures done { IfOk result (λ s. D.tells ≡ true → Changes (D.view disk.old) (D.view disk.new) W.contents W.has_failed writer.old writer.new
+    ensures done { IfOk result (λ s. D.tells ≡ true → Changes (D.view disk.old) (D.view disk.new) (λ n. D.has_kept disk.new n ≡ true) W.contents W.has_failed writer.old writer.new
         name.now (λ files. IsAnswered files name.now (asked_view asked.entry)) s) }
     ensures named { IfErr result (IsNamed name.now name.now name.now) }
-    ensures stopped { IfErr result (λ t. D.tells ≡ true → ChangeStops (D.view disk.old) (D.view disk.new) W.contents W.has_failed writer.old writer.new
+    ensures stopped { IfErr result (λ t. D.tells ≡ true → ChangeStops (D.view disk.old) (D.view disk.new) (λ n. D.has_kept disk.new n ≡ true) W.contents W.has_failed writer.old writer.new
         name.now (λ files. IsAnswered files name.now (asked_view asked.entry)) t) }
 {
     let mut draft = lock_bench(disk, alloc, name)?;
@@ -165,13 +165,13 @@ fn move_locked<'a, D: Disk, W: Sink>(
     asked: Asked<'_>,
 ) -> Result<Status, Trouble<'a>>
     ensures own { draft.new.name ≡ draft.old.name }
-    ensures done { IfOk result (λ s. D.tells ≡ true → D.Made.contents draft.old.made ≡ Some [] → EndsAs
+    ensures done { IfOk result (λ s. D.tells ≡ true → IsBlank (D.Made.contents draft.old.made) draft.old.is_placed → EndsAs
         (IsAnswered (D.view disk.old) name.now (asked_view asked.entry))
         (λ saved. IsKeptBy saved draft.new.is_placed (string_bytes draft.old.name) (string_bytes draft.old.place.name) (D.view disk.old) (D.view disk.new))
         (Appends (W.contents writer.old) (W.contents writer.new)) s) }
     ensures named { IfErr result (IsNamed name.now name.now name.now) }
-    ensures stopped { IfErr result (λ t. D.tells ≡ true → D.Made.contents draft.old.made ≡ Some [] → Stops
-        (IsAsBut (string_bytes draft.old.name) (D.view disk.old) (D.view disk.new) × ((writer.new ≡ writer.old) × IsUnchanged (under (D.view disk.old) name.now) (IsAnswered (D.view disk.old) name.now (asked_view asked.entry)) t))
+    ensures stopped { IfErr result (λ t. D.tells ≡ true → IsBlank (D.Made.contents draft.old.made) draft.old.is_placed → Stops
+        (IsKeptBy None draft.new.is_placed (string_bytes draft.old.name) (string_bytes draft.old.place.name) (D.view disk.old) (D.view disk.new) × ((writer.new ≡ writer.old) × IsUnchanged (under (D.view disk.old) name.now) (IsAnswered (D.view disk.old) name.now (asked_view asked.entry)) t))
         (λ said. ComesTo (IsAnswered (D.view disk.old) name.now (asked_view asked.entry)) (IsSaid said
         (λ saved. IsKeptBy saved draft.new.is_placed (string_bytes draft.old.name) (string_bytes draft.old.place.name) (D.view disk.old) (D.view disk.new)))
         (IsCut W.contents W.has_failed writer.old writer.new))
@@ -192,10 +192,10 @@ pub(crate) fn look<'a, D: Disk, W: Sink>(
     name: &'a str,
     asked: Asked<'_>,
 ) -> Result<Status, Trouble<'a>>
-    ensures done { IfOk result (λ s. D.tells ≡ true → Looks (D.view disk.now) (D.view disk.now) W.contents W.has_failed writer.old writer.new
+    ensures done { IfOk result (λ s. D.tells ≡ true → Looks (D.view disk.now) (D.view disk.now) (λ n. D.has_kept disk.now n ≡ true) W.contents W.has_failed writer.old writer.new
         (IsSeen (D.view disk.now) name.now (asked_view asked.entry)) s) }
     ensures named { IfErr result (IsNamed name.now name.now name.now) }
-    ensures stopped { IfErr result (λ t. D.tells ≡ true → LookStops (D.view disk.now) (D.view disk.now) W.contents W.has_failed writer.old writer.new
+    ensures stopped { IfErr result (λ t. D.tells ≡ true → LookStops (D.view disk.now) (D.view disk.now) (λ n. D.has_kept disk.now n ≡ true) W.contents W.has_failed writer.old writer.new
         name.now (IsSeen (D.view disk.now) name.now (asked_view asked.entry)) t) }
 {
     let mut bench = ManuallyDrop::new(load_bench(disk, alloc, notes, name)?);
@@ -272,14 +272,14 @@ fn answer_and_save<'a, D: Disk, W: Sink>(
     ensures reply { OnOk result (Appends (W.contents writer.old) (W.contents writer.new)
         ((asked_answer readings bench.old (asked_view asked.entry)).0 ++ line_feed ∷ [])) }
     ensures ended { IfOk result (λ s. s ≡ status_for (is_asked_accepted bench.old (asked_view asked.entry))) }
-    ensures kept { OnOk result (D.tells ≡ true → D.Made.contents draft.old.made ≡ Some []
+    ensures kept { OnOk result (D.tells ≡ true → IsBlank (D.Made.contents draft.old.made) draft.old.is_placed
         → IsKeptBy (saved_for bench.old (asked_view asked.entry)) draft.new.is_placed
         (string_bytes draft.old.name) (string_bytes draft.old.place.name) (D.view disk.old) (D.view disk.new)) }
     ensures named { IfErr result (IsNamed name.now name.now name.now) }
 
     // No reply stands before the file.
-    ensures stopped { IfErr result (λ t. D.tells ≡ true → D.Made.contents draft.old.made ≡ Some [] → Stops
-        (IsAsBut (string_bytes draft.old.name) (D.view disk.old) (D.view disk.new)
+    ensures stopped { IfErr result (λ t. D.tells ≡ true → IsBlank (D.Made.contents draft.old.made) draft.old.is_placed → Stops
+        (IsKeptBy None draft.new.is_placed (string_bytes draft.old.name) (string_bytes draft.old.place.name) (D.view disk.old) (D.view disk.new)
         × ((writer.new ≡ writer.old) × IsUnsaved (saved_for bench.old (asked_view asked.entry)) t))
         (λ said. IsCut W.contents W.has_failed writer.old writer.new ((asked_answer readings bench.old (asked_view asked.entry)).0 ++ line_feed ∷ [])
         × IsSaid said (λ saved. IsKeptBy saved draft.new.is_placed
@@ -304,11 +304,12 @@ fn save_change<'a, D: Disk>(
     is_change: bool,
 ) -> Result<Option<&'a str>, Trouble<'a>>
     ensures own { draft.new.name ≡ draft.old.name }
-    ensures kept { OnOk result (D.tells ≡ true → D.Made.contents draft.old.made ≡ Some []
+    ensures kept { OnOk result (D.tells ≡ true → IsBlank (D.Made.contents draft.old.made) draft.old.is_placed
         → IsKeptBy (if is_change then Some (recorded_text depths bench.now) else None) draft.new.is_placed
         (string_bytes draft.old.name) (string_bytes draft.old.place.name) (D.view disk.old) (D.view disk.new)) }
     ensures told { IfOk result (λ saved. is_some saved ≡ is_change) }
     ensures named { IfOk result (λ saved. IfSome saved (λ s. s.now ≡ name.now)) }
+    ensures unplaced { OnErr result (draft.new.is_placed ≡ draft.old.is_placed) }
     ensures err { OnErr result (IsAsBut (string_bytes draft.old.name) (D.view disk.old) (D.view disk.new)) }
     ensures trouble { IfErr result (λ t. (is_change ≡ true) × IsSaveTrouble name.now (recorded_text depths bench.now) t) }
 {

@@ -1,10 +1,11 @@
 //! The draft beside a bench's file: the lock of a call that may save, and what takes the file's place.
-ghost use Rattle.std.specs.Prelude.{◌≡◌, ◌≤◌, ◌++◌, [], Some, true, false, codes, IfErr, IfOk, OnErr, OnOk, length, string_bytes};
+ghost use Rattle.std.specs.Prelude.{◌≡◌, ◌≢◌, ◌≤◌, ◌++◌, [], Some, true, false, codes, IfErr, IfOk, OnErr, OnOk, length, option_map, string_bytes};
 ghost use Rattle.ssa_model.specs.definitions.BenchText.{depths};
 ghost use Rattle.ssa_model.specs.definitions.RecordedBench.{recorded_text};
 ghost use Rattle.ssa_model.specs.definitions.Limits.{most_bench_bytes};
-ghost use Rattle.ssa_disk.specs.Files.{IsAsBut, draft_of};
+ghost use Rattle.ssa_disk.specs.Files.{IsAsBut, IsFound, draft_of, nothing, other, under};
 ghost use Rattle.ssa_program.specs.Kept.{IsPut};
+ghost use Rattle.ssa_program.specs.Stops.{IsUnlocked};
 ghost use Rattle.ssa_program.specs.Trouble.{IsDraftTrouble, IsPlaceTrouble, IsSaveTrouble};
 
 use crate::trouble::Trouble;
@@ -22,7 +23,10 @@ pub fn place_of<'a, D: Disk>(
 ) -> Result<Place<D::Found>, Trouble<'a>>
     ensures own { IfOk result (λ p. D.tells ≡ true → string_bytes p.name ≡ (D.view disk.now).own name.now) }
     ensures place { IfOk result (λ p. D.tells ≡ true → (D.view disk.now).place (string_bytes p.name) ≡ (D.view disk.now).place name.now) }
+    ensures found { IfOk result (λ p. D.tells ≡ true → IsFound (under (D.view disk.now) name.now) (option_map D.number p.found)) }
+    ensures plain { OnOk result (D.tells ≡ true → under (D.view disk.now) name.now ≢ other) }
     ensures trouble { IfErr result (IsPlaceTrouble name.now) }
+    ensures unlocked { IfErr result (λ t. D.tells ≡ true → IsUnlocked (under (D.view disk.now) name.now) t) }
 {
     match disk.find(alloc, name) {
         Ok(place) => Ok(place),
@@ -42,10 +46,12 @@ pub fn take_draft<'a, D: Disk>(
     ensures own { IfOk result (λ d. string_bytes d.name ≡ string_bytes place.name ++ codes ".new") }
     ensures place { IfOk result (λ d. d.place ≡ place) }
     ensures unplaced { IfOk result (λ d. d.is_placed ≡ false) }
+    ensures fresh { IfOk result (λ d. D.tells ≡ true → under (D.view disk.old) (string_bytes d.name) ≡ nothing) }
     ensures empty { IfOk result (λ d. D.tells ≡ true → D.Made.contents d.made ≡ Some []) }
     ensures others { IfOk result (λ d. IsAsBut (string_bytes d.name) (D.view disk.old) (D.view disk.new)) }
     ensures err { OnErr result (D.view disk.new ≡ D.view disk.old) }
     ensures trouble { IfErr result (IsDraftTrouble name.now) }
+    ensures unlocked { IfErr result (λ t. D.tells ≡ true → IsUnlocked (under (D.view disk.old) name.now) t) }
 {
     match take(disk, alloc, place) {
         Ok(draft) => Ok(draft),
@@ -61,13 +67,16 @@ pub fn lock_bench<'a, D: Disk>(
     alloc: Global,
     name: &'a str,
 ) -> Result<Draft<D::Made, D::Found>, Trouble<'a>>
+    ensures plain { OnOk result (D.tells ≡ true → under (D.view disk.old) name.now ≢ other) }
     ensures own { IfOk result (λ d. D.tells ≡ true → string_bytes d.name ≡ draft_of (D.view disk.old) name.now) }
     ensures place { IfOk result (λ d. D.tells ≡ true → (D.view disk.old).place (string_bytes d.place.name) ≡ (D.view disk.old).place name.now) }
     ensures unplaced { IfOk result (λ d. d.is_placed ≡ false) }
+    ensures fresh { IfOk result (λ d. D.tells ≡ true → under (D.view disk.old) (string_bytes d.name) ≡ nothing) }
     ensures empty { IfOk result (λ d. D.tells ≡ true → D.Made.contents d.made ≡ Some []) }
     ensures others { IfOk result (λ d. IsAsBut (string_bytes d.name) (D.view disk.old) (D.view disk.new)) }
     ensures err { OnErr result (D.view disk.new ≡ D.view disk.old) }
     ensures trouble { IfErr result (IsDraftTrouble name.now) }
+    ensures unlocked { IfErr result (λ t. D.tells ≡ true → IsUnlocked (under (D.view disk.old) name.now) t) }
 {
     let place = place_of(disk, alloc, name)?;
     if place.found.is_none() {

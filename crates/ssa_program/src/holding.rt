@@ -4,7 +4,7 @@ ghost use Rattle.ssa_model.specs.definitions.BenchText.{depths};
 ghost use Rattle.ssa_model.specs.definitions.RecordedBench.{recorded_text};
 ghost use Rattle.ssa_disk.specs.Files.{IsAsBut, under};
 ghost use Rattle.ssa_program.specs.Done.{BreaksOff, HoldStops, Holds, IsHeld, RunsToEnd};
-ghost use Rattle.ssa_program.specs.Kept.{IsKeptBy};
+ghost use Rattle.ssa_program.specs.Kept.{IsBlank, IsKeptBy};
 ghost use Rattle.ssa_program.specs.Stops.{IsUnloaded, IsUnsaved, Stops};
 ghost use Rattle.ssa_program.specs.Trouble.{IsNamed};
 ghost use Rattle.ssa_program.specs.Watching.{IsWarned};
@@ -36,10 +36,10 @@ pub(crate) fn hold_session<'a, D: Disk, R: Source, W: Sink, E: Sink>(
     name: &'a str,
 ) -> Result<Status, Trouble<'a>>
     ensures warned { IsWarned E.contents E.has_failed errors.old errors.new name.now }
-    ensures done { IfOk result (λ s. D.tells ≡ true → Holds (D.view disk.old) (D.view disk.new) W.contents W.has_failed writer.old writer.new
+    ensures done { IfOk result (λ s. D.tells ≡ true → Holds (D.view disk.old) (D.view disk.new) (λ n. D.has_kept disk.new n ≡ true) W.contents W.has_failed writer.old writer.new
         (R.remaining reader.old) (R.remaining reader.new) (R.has_failed reader.new ≡ true) name.now s) }
     ensures named { IfErr result (IsNamed name.now name.now name.now) }
-    ensures stopped { IfErr result (λ t. D.tells ≡ true → HoldStops (D.view disk.old) (D.view disk.new) W.contents W.has_failed writer.old writer.new
+    ensures stopped { IfErr result (λ t. D.tells ≡ true → HoldStops (D.view disk.old) (D.view disk.new) (λ n. D.has_kept disk.new n ≡ true) W.contents W.has_failed writer.old writer.new
         (R.remaining reader.old) (R.remaining reader.new) (R.has_failed reader.new ≡ true) name.now t) }
 {
     let mut draft = lock_bench(disk, alloc, name)?;
@@ -61,20 +61,20 @@ fn hold_locked<'a, D: Disk, R: Source, W: Sink, E: Sink>(
 ) -> Result<Status, Trouble<'a>>
     ensures warned { IsWarned E.contents E.has_failed errors.old errors.new name.now }
     ensures own { draft.new.name ≡ draft.old.name }
-    ensures done { IfOk result (λ s. D.tells ≡ true → D.Made.contents draft.old.made ≡ Some [] → (s ≡ Status.Done)
+    ensures done { IfOk result (λ s. D.tells ≡ true → IsBlank (D.Made.contents draft.old.made) draft.old.is_placed → (s ≡ Status.Done)
         × IsHeld (D.view disk.old) name.now (λ held after.
         RunsToEnd (R.remaining reader.old) (R.remaining reader.new) (W.contents writer.old) (W.contents writer.new) held after
         × IsKeptBy (Some (recorded_text depths after)) draft.new.is_placed
         (string_bytes draft.old.name) (string_bytes draft.old.place.name) (D.view disk.old) (D.view disk.new))) }
     ensures named { IfErr result (IsNamed name.now name.now name.now) }
-    ensures stopped { IfErr result (λ t. D.tells ≡ true → Stops
-        (IsAsBut (string_bytes draft.old.name) (D.view disk.old) (D.view disk.new)
+    ensures stopped { IfErr result (λ t. D.tells ≡ true → IsBlank (D.Made.contents draft.old.made) draft.old.is_placed → Stops
+        (IsKeptBy None draft.new.is_placed (string_bytes draft.old.name) (string_bytes draft.old.place.name) (D.view disk.old) (D.view disk.new)
         × ((IsUnloaded (under (D.view disk.old) name.now) t × (writer.new ≡ writer.old))
         ⊎ IsHeld (D.view disk.old) name.now (λ held after.
         RunsToEnd (R.remaining reader.old) (R.remaining reader.new) (W.contents writer.old) (W.contents writer.new) held after
         × IsUnsaved (Some (recorded_text depths after)) t)))
         (λ said. ⊥)
-        (IsAsBut (string_bytes draft.old.name) (D.view disk.old) (D.view disk.new)
+        (IsKeptBy None draft.new.is_placed (string_bytes draft.old.name) (string_bytes draft.old.place.name) (D.view disk.old) (D.view disk.new)
         × IsHeld (D.view disk.old) name.now (BreaksOff (R.has_failed reader.new ≡ true) (W.has_failed writer.new ≡ true)
         (R.remaining reader.old) (R.remaining reader.new) (W.contents writer.old) (W.contents writer.new)))
         t) }
@@ -98,7 +98,7 @@ fn hold_and_save<'a, D: Disk, R: Source, W: Sink, E: Sink>(
     ensures own { draft.new.name ≡ draft.old.name }
     ensures ended { IfOk result (λ s. s ≡ Status.Done) }
     ensures runs { OnOk result (RunsToEnd (R.remaining reader.old) (R.remaining reader.new) (W.contents writer.old) (W.contents writer.new) bench.old bench.new) }
-    ensures kept { OnOk result (D.tells ≡ true → D.Made.contents draft.old.made ≡ Some []
+    ensures kept { OnOk result (D.tells ≡ true → IsBlank (D.Made.contents draft.old.made) draft.old.is_placed
         → IsKeptBy (Some (recorded_text depths bench.new)) draft.new.is_placed
         (string_bytes draft.old.name) (string_bytes draft.old.place.name) (D.view disk.old) (D.view disk.new)) }
     ensures named { IfErr result (IsNamed name.now name.now name.now) }
@@ -111,6 +111,7 @@ fn hold_and_save<'a, D: Disk, R: Source, W: Sink, E: Sink>(
         (BreaksOff (R.has_failed reader.new ≡ true) (W.has_failed writer.new ≡ true)
         (R.remaining reader.old) (R.remaining reader.new) (W.contents writer.old) (W.contents writer.new) bench.old bench.new)
         t) }
+    ensures unplaced { OnErr result (draft.new.is_placed ≡ draft.old.is_placed) }
     ensures left { OnErr result (IsAsBut (string_bytes draft.old.name) (D.view disk.old) (D.view disk.new)) }
 {
     let mut watch = LengthWatch::new(errors, name);

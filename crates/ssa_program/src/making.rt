@@ -1,22 +1,24 @@
 //! A bench that is made of its files.
-ghost use Rattle.std.specs.Prelude.{◌≡◌, ◌++◌, ◌∷◌, [], Some, Ok, Err, true, codes, IfErr, IfOk, string_bytes};
+ghost use Rattle.std.specs.Prelude.{◌≡◌, ◌≢◌, ◌↔◌, ◌++◌, ◌∷◌, [], Some, Ok, Err, true, IfErr, IfOk, IsTrue, OnOk, option_map, string_bytes};
 ghost use Rattle.std.specs.Io.KnownBytes.{Appends};
 ghost use Rattle.ssa_model.specs.definitions.BenchText.{depths};
 ghost use Rattle.ssa_model.specs.definitions.Files.{bench_with_file, schema_of_file};
 ghost use Rattle.ssa_model.specs.definitions.History as history;
+ghost use Rattle.ssa_model.specs.definitions.Json.{Text};
 ghost use Rattle.ssa_model.specs.definitions.Lines.{line_feed};
 ghost use Rattle.ssa_model.specs.definitions.RecordedBench.{recorded_text};
 ghost use Rattle.ssa_model.specs.definitions.Schema as model;
 ghost use Rattle.ssa_model.specs.definitions.Subcommands.{init_text};
 ghost use Rattle.ssa_json.specs.Readings.{readings};
-ghost use Rattle.ssa_disk.specs.Files.{IsAsBut};
+ghost use Rattle.ssa_disk.specs.Files.{AreOne, IsFound, other, under};
 ghost use Rattle.ssa_session.specs.Files.{IsGivenFile};
 ghost use Rattle.ssa_session.specs.declared.files.FileFault.{FileFault};
 ghost use Rattle.ssa_program.specs.Done.{MakeStops, Makes};
-ghost use Rattle.ssa_program.specs.Kept.{IsPut};
-ghost use Rattle.ssa_program.specs.Stops.{IsUnsaved, Stops};
+ghost use Rattle.ssa_program.specs.Kept.{IsKept, IsOwnName, IsUnsavedBy};
+ghost use Rattle.ssa_program.specs.Outcome.{IsMadeOf, IsOwnSource};
+ghost use Rattle.ssa_program.specs.Stops.{IsUnlocked, IsUnplaced, IsUnread, IsUnsaved, Stops};
 ghost use Rattle.ssa_program.specs.Telling.{IsCut};
-ghost use Rattle.ssa_program.specs.Trouble.{IsNamed};
+ghost use Rattle.ssa_program.specs.Trouble.{IsNamed, IsReadTrouble};
 ghost use Rattle.ssa_program.specs.declared.trouble.Trouble.TheVariants.{File};
 
 use crate::draft::{place_of, put_draft, take_draft};
@@ -77,8 +79,75 @@ fn made_bench<'a>(
     }
 }
 
-// Makes a bench of a schema file, which is tested whole first, and an object file. What the bench would take the place of is
-// looked at before.
+// Whether a bench would take the place of this source.
+fn is_own_source<'a, D: Disk>(
+    disk: &D,
+    place: &Place<D::Found>,
+    name: &'a str,
+) -> Result<bool, Trouble<'a>>
+    ensures told { IfOk result (λ is. D.tells ≡ true → IsFound (under (D.view disk.now) (string_bytes place.now.name)) (option_map D.number place.now.found)
+        → IsTrue is ↔ AreOne (under (D.view disk.now) (string_bytes place.now.name)) (under (D.view disk.now) name.now)) }
+    ensures trouble { IfErr result (IsReadTrouble name.now) }
+{
+    match disk.is_file_of(place, name) {
+        Ok(is_own) => Ok(is_own),
+        Err(_) => Err(Trouble::CannotRead(name)),
+    }
+}
+
+// Where a bench is to be made of these sources, whose place it would take of neither.
+fn place_apart<'a, D: Disk>(
+    disk: &D,
+    alloc: Global,
+    schema: &'a str,
+    object: &'a str,
+    bench: &'a str,
+) -> Result<Place<D::Found>, Trouble<'a>>
+    ensures plain { OnOk result (D.tells ≡ true → under (D.view disk.now) bench.now ≢ other) }
+    ensures own { IfOk result (λ p. D.tells ≡ true → string_bytes p.name ≡ (D.view disk.now).own bench.now) }
+    ensures place { IfOk result (λ p. D.tells ≡ true → (D.view disk.now).place (string_bytes p.name) ≡ (D.view disk.now).place bench.now) }
+    ensures apart { OnOk result (D.tells ≡ true → ¬ IsOwnSource (D.view disk.now) schema.now object.now bench.now) }
+    ensures named { IfErr result (IsNamed bench.now schema.now object.now) }
+    ensures unplaced { IfErr result (λ t. D.tells ≡ true → IsUnplaced (D.view disk.now) schema.now object.now bench.now t) }
+{
+    let place = place_of(disk, alloc, bench)?;
+    if is_own_source(disk, &place, schema)? {
+        return Err(Trouble::OwnSource(bench));
+    }
+    if is_own_source(disk, &place, object)? {
+        return Err(Trouble::OwnSource(bench));
+    }
+    Ok(place)
+}
+
+// The bench of a schema file, which is tested whole first, and an object file.
+fn read_sources<'a, D: Disk>(
+    disk: &D,
+    alloc: Global,
+    notes: &mut Notes,
+    schema: &'a str,
+    object: &'a str,
+    depth: Depth,
+) -> Result<Bench, Trouble<'a>>
+    ensures made { IfOk result (λ made. D.tells ≡ true → IsMadeOf (D.view disk.now) schema.now object.now depth made) }
+    ensures named { (bench : Text) → IfErr result (IsNamed bench schema.now object.now) }
+    ensures unread { IfErr result (λ t. D.tells ≡ true → IsUnread (D.view disk.now) schema.now object.now depth t) }
+{
+    let schema_bytes = read_file(disk, alloc, schema)?;
+    let read = made_schema(alloc, notes, schema, &schema_bytes)?;
+    let object_bytes = read_file(disk, alloc, object)?;
+    made_bench(
+        alloc,
+        notes,
+        read,
+        &schema_bytes,
+        object,
+        &object_bytes,
+        depth,
+    )
+}
+
+// Makes a bench of a schema file and an object file. What it would take the place of is looked at before.
 pub(crate) fn init<'a, D: Disk, W: Sink>(
     disk: &mut D,
     alloc: Global,
@@ -89,28 +158,14 @@ pub(crate) fn init<'a, D: Disk, W: Sink>(
     bench: &'a str,
     depth: Depth,
 ) -> Result<Status, Trouble<'a>>
-    ensures done { IfOk result (λ s. D.tells ≡ true → Makes (D.view disk.old) (D.view disk.new) W.contents W.has_failed writer.old writer.new
+    ensures done { IfOk result (λ s. D.tells ≡ true → Makes (D.view disk.old) (D.view disk.new) (λ n. D.has_kept disk.new n ≡ true) W.contents W.has_failed writer.old writer.new
         schema.now object.now bench.now depth s) }
     ensures named { IfErr result (IsNamed bench.now schema.now object.now) }
-    ensures stopped { IfErr result (λ t. D.tells ≡ true → MakeStops (D.view disk.old) (D.view disk.new) W.contents W.has_failed writer.old writer.new
+    ensures stopped { IfErr result (λ t. D.tells ≡ true → MakeStops (D.view disk.old) (D.view disk.new) (λ n. D.has_kept disk.new n ≡ true) W.contents W.has_failed writer.old writer.new
         schema.now object.now bench.now depth t) }
 {
-    let place = place_of(disk, alloc, bench)?;
-    if disk.is_file_of(&place, schema) || disk.is_file_of(&place, object) {
-        return Err(Trouble::OwnSource(bench));
-    }
-    let schema_bytes = read_file(disk, alloc, schema)?;
-    let read = made_schema(alloc, notes, schema, &schema_bytes)?;
-    let object_bytes = read_file(disk, alloc, object)?;
-    let made = made_bench(
-        alloc,
-        notes,
-        read,
-        &schema_bytes,
-        object,
-        &object_bytes,
-        depth,
-    )?;
+    let place = place_apart(disk, alloc, schema, object, bench)?;
+    let made = read_sources(disk, alloc, notes, schema, object, depth)?;
     let made = ManuallyDrop::new(made);
     save_new(disk, alloc, writer, place, bench, &made)
 }
@@ -124,14 +179,15 @@ fn save_new<'a, D: Disk, W: Sink>(
     name: &'a str,
     bench: &Bench,
 ) -> Result<Status, Trouble<'a>>
-    ensures done { IfOk result (λ s. D.tells ≡ true → (s ≡ Status.Done)
+    ensures done { IfOk result (λ s. D.tells ≡ true → IsOwnName (D.view disk.old) (string_bytes place.name) name.now → (s ≡ Status.Done)
         × (Appends (W.contents writer.old) (W.contents writer.new) (init_text bench.now ++ line_feed ∷ [])
-        × IsPut (recorded_text depths bench.now) (string_bytes place.name ++ codes ".new") (string_bytes place.name) (D.view disk.old) (D.view disk.new))) }
+        × IsKept (λ n. D.has_kept disk.new n ≡ true) (Some (recorded_text depths bench.now)) name.now (D.view disk.old) (D.view disk.new))) }
     ensures named { IfErr result (IsNamed name.now name.now name.now) }
-    ensures stopped { IfErr result (λ t. D.tells ≡ true → Stops
-        (IsAsBut (string_bytes place.name ++ codes ".new") (D.view disk.old) (D.view disk.new) × ((writer.new ≡ writer.old) × IsUnsaved (Some (recorded_text depths bench.now)) t))
+    ensures stopped { IfErr result (λ t. D.tells ≡ true → IsOwnName (D.view disk.old) (string_bytes place.name) name.now → Stops
+        ((writer.new ≡ writer.old) × IsUnsavedBy (λ n. D.has_kept disk.new n ≡ true)
+        (IsUnlocked (under (D.view disk.old) name.now) t) (IsUnsaved (Some (recorded_text depths bench.now)) t) name.now (D.view disk.old) (D.view disk.new))
         (λ said. (said ≡ true) × (IsCut W.contents W.has_failed writer.old writer.new (init_text bench.now ++ line_feed ∷ [])
-        × IsPut (recorded_text depths bench.now) (string_bytes place.name ++ codes ".new") (string_bytes place.name) (D.view disk.old) (D.view disk.new)))
+        × IsKept (λ n. D.has_kept disk.new n ≡ true) (Some (recorded_text depths bench.now)) name.now (D.view disk.old) (D.view disk.new)))
         ⊥ t) }
 {
     let reply = init_text(alloc, bench)?;

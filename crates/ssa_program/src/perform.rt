@@ -29,7 +29,7 @@ pub fn perform<D: Disk, R: Source, W: Sink, E: Sink>(
     errors: &mut E,
 ) -> u8
     ensures status { result < 4 }
-    ensures performed { D.tells ≡ true → IsPerformed (D.view disk.old) (D.view disk.new) W.contents W.has_failed writer.old writer.new
+    ensures performed { D.tells ≡ true → IsPerformed (D.view disk.old) (D.view disk.new) (λ n. D.has_kept disk.new n ≡ true) W.contents W.has_failed writer.old writer.new
         E.contents E.has_failed errors.old errors.new (R.remaining reader.old) (R.remaining reader.new) (R.has_failed reader.new ≡ true) call.now result }
 {
     let mut notes = Notes::new(alloc);
@@ -56,10 +56,10 @@ fn carry_out<'a, D: Disk, R: Source, W: Sink, E: Sink>(
     notes: &mut Notes,
 ) -> Result<Status, Trouble<'a>>
     ensures begun { IsBegun E.contents E.has_failed errors.old errors.new call.now }
-    ensures done { IfOk result (λ s. D.tells ≡ true → IsDone (D.view disk.old) (D.view disk.new) W.contents W.has_failed writer.old writer.new
+    ensures done { IfOk result (λ s. D.tells ≡ true → IsDone (D.view disk.old) (D.view disk.new) (λ n. D.has_kept disk.new n ≡ true) W.contents W.has_failed writer.old writer.new
         (R.remaining reader.old) (R.remaining reader.new) (R.has_failed reader.new ≡ true) call.now s) }
     ensures named { IfErr result (IsNamedBy call.now) }
-    ensures stopped { IfErr result (λ t. D.tells ≡ true → IsStopped (D.view disk.old) (D.view disk.new) W.contents W.has_failed writer.old writer.new
+    ensures stopped { IfErr result (λ t. D.tells ≡ true → IsStopped (D.view disk.old) (D.view disk.new) (λ n. D.has_kept disk.new n ≡ true) W.contents W.has_failed writer.old writer.new
         (R.remaining reader.old) (R.remaining reader.new) (R.has_failed reader.new ≡ true) call.now t) }
 {
     match *call {

@@ -37,7 +37,7 @@ impl Memory {
     /// Puts these bytes under the name.
     pub fn put(&mut self, name: &str, bytes: &[u8]) -> Result<(), AllocError> {
         let bytes = Vec::from_slice(self.alloc, bytes)?;
-        self.remove(name);
+        self.take_away(name);
         let name = String::from_str(self.alloc, name)?;
         self.files.push(NamedFile { name, bytes })?;
         Ok(())
@@ -51,6 +51,11 @@ impl Memory {
             }
         }
         None
+    }
+
+    // Nothing is left under the name.
+    fn take_away(&mut self, name: &str) {
+        self.files.retain(|file| file.name.as_str() != name);
     }
 
     /// From here on no file can be made.
@@ -70,6 +75,10 @@ impl Disk for Memory {
 
     ghost view = { λ _. untold };
 
+    ghost number = { λ _. 0 };
+
+    ghost has_kept = { λ _ _. false };
+
     fn find(&self, alloc: Global, name: &str) -> Result<Place<()>, PlaceFault> {
         let own = String::from_str(alloc, name)?;
         let found = if self.bytes_of(name).is_some() {
@@ -80,8 +89,8 @@ impl Disk for Memory {
         Ok(Place { name: own, found })
     }
 
-    fn is_file_of(&self, place: &Place<()>, name: &str) -> bool {
-        place.name.as_str() == name
+    fn is_file_of(&self, place: &Place<()>, name: &str) -> Result<bool, DeviceFault> {
+        Ok(place.name.as_str() == name)
     }
 
     fn read(&self, alloc: Global, name: &str, most: usize) -> Result<Vec<u8>, ReadFault> {
@@ -136,11 +145,12 @@ impl Disk for Memory {
         if self.put(to, bytes.as_slice()).is_err() {
             return Err(DeviceFault);
         }
-        self.remove(name);
+        self.take_away(name);
         Ok(())
     }
 
-    fn remove(&mut self, name: &str) {
-        self.files.retain(|file| file.name.as_str() != name);
+    fn remove(&mut self, name: &str) -> Result<(), DeviceFault> {
+        self.take_away(name);
+        Ok(())
     }
 }

@@ -1,11 +1,10 @@
 use Rattle.std.specs.Prelude.{is_some}
-use Rattle.std.proofs.Common.{◌≡◌, ◌++◌, ◌∷◌, [], ℕ, List, Bool, Some, true, string_bytes, subst}
+use Rattle.std.proofs.Common.{◌≡◌, ◌++◌, ◌∷◌, [], ℕ, List, Bool, None, true, string_bytes, subst}
 use Rattle.std.specs.Io.KnownBytes.{Appends}
 use Rattle.std.specs.Result.{IfErr, IfOk, OnOk}
 use Rattle.ssa_model.specs.definitions.Lines.{line_feed}
 use Rattle.ssa_answers.specs.Asked.{asked_view}
-use Rattle.ssa_disk.specs.Files.{IsAsBut}
-use Rattle.ssa_program.specs.Kept.{IsKeptBy}
+use Rattle.ssa_program.specs.Kept.{IsBlank, IsKeptBy}
 use Rattle.ssa_program.specs.Outcome.{saved_for}
 use Rattle.ssa_program.specs.Status.{status_for}
 use Rattle.ssa_program.specs.Stops.{IsUnsaved, Stops}
@@ -26,14 +25,14 @@ returns-clause-ended g c = subst (λ (b : Bool). IfOk c.write_answer.result (λ 
 pub returns-clause-kept : goal.returns-clause-kept
 returns-clause-kept g c =
     on_ok c.write_answer.result _
-    (saved_change (g.D.Disk.tells ≡ true) (g.D.Made.Sink.contents c.args.draft.now.made ≡ Some []) c.args.bench.now c.answer.new.bench (asked_view c.args.asked)
+    (saved_change (g.D.Disk.tells ≡ true) (IsBlank (g.D.Made.Sink.contents c.args.draft.now.made) c.args.draft.now.is_placed) c.args.bench.now c.answer.new.bench (asked_view c.args.asked)
     c.in_ok-reply.reply.is_change c.save_change.new.draft.is_placed (string_bytes c.args.draft.now.name) (string_bytes c.args.draft.now.place.name)
     (g.D.Disk.view c.args.disk.now) (g.D.Disk.view c.save_change.new.disk) c.in_ok-reply.ensures.change c.in_ok-reply.ensures.after c.in_ok-saved.ensures.kept)
 
 pub returns-clause-stopped : goal.returns-clause-stopped
 returns-clause-stopped g c =
     let tells = g.D.Disk.tells ≡ true in
-    let blank = g.D.Made.Sink.contents c.args.draft.now.made ≡ Some [] in
+    let blank = IsBlank (g.D.Made.Sink.contents c.args.draft.now.made) c.args.draft.now.is_placed in
     let draft = string_bytes c.args.draft.now.name in
     let place = string_bytes c.args.draft.now.place.name in
     let old = g.D.Disk.view c.args.disk.now in
@@ -41,7 +40,7 @@ returns-clause-stopped g c =
     let asked = asked_view c.args.asked in
     let saved = saved_for c.args.bench.now asked in
     let keeps = IsKeptBy saved c.save_change.new.draft.is_placed draft place old new in
-    let before : Trouble → Type 0 = λ t. IsAsBut draft old new × ((c.write_answer.new.writer ≡ c.args.writer.now) × IsUnsaved saved t) in
+    let before : Trouble → Type 0 = λ t. IsKeptBy None c.save_change.new.draft.is_placed draft place old new × ((c.write_answer.new.writer ≡ c.args.writer.now) × IsUnsaved saved t) in
     let stopped : List ℕ → _ = λ t. IfErr c.write_answer.result (λ f. tells → blank → Stops (before f)
     (λ said. IsCut g.W.Sink.contents g.W.Sink.has_failed c.args.writer.now c.write_answer.new.writer (t ++ line_feed ∷ []) × ((said ≡ is_some saved) × keeps))
     ⊥ f) in

@@ -1,8 +1,9 @@
-use Rattle.std.proofs.Common.{◌≡◌, ◌∙◌, [], Some, true, string_bytes, refl, sym, subst}
+use Rattle.std.proofs.Common.{◌≡◌, ◌∙◌, true, string_bytes, refl, sym, subst}
 use Rattle.ssa_model.specs.definitions.History.{Bench}
 use Rattle.ssa_model.specs.definitions.Json.{Text}
 use Rattle.ssa_answers.specs.Asked.{asked_view}
 use Rattle.ssa_disk.specs.Files.{under}
+use Rattle.ssa_program.specs.Kept.{IsBlank}
 use Rattle.ssa_program.specs.Outcome.{IsBenchAt, IsChanged, IsInput}
 use Rattle.ssa_program.proofs.Calls.{locked_done, locked_stopped}
 use Rattle.ssa_program.proofs.Stopping.{named_more}
@@ -17,7 +18,7 @@ returns-clause-done g c =
     let held = c.deref_mut.result.now in
     let same : c.in_ok-load_bench.field-0 ≡ held = sym (c.deref_mut.ensures.value ∙ c.new-bench.ensures) in
     locked_done g.W.Sink.contents g.W.Sink.has_failed c.args.writer.now c.answer_and_save.new.writer
-    (g.D.Disk.tells ≡ true) (g.D.Made.Sink.contents c.args.draft.now.made ≡ Some []) (IsChanged old name c.args.file.now c.args.call.now)
+    (g.D.Disk.tells ≡ true) (IsBlank (g.D.Made.Sink.contents c.args.draft.now.made) c.args.draft.now.is_placed) (IsChanged old name c.args.file.now c.args.call.now)
     held (asked_view c.asked_of-asked.result) (string_bytes c.args.draft.now.name) (string_bytes c.args.draft.now.place.name) c.answer_and_save.new.draft.is_placed
     old (g.D.Disk.view c.answer_and_save.new.disk)
     (λ told. record {
@@ -36,7 +37,7 @@ returns-clause-stopped g c =
     let held = c.deref_mut.result.now in
     let same : c.in_ok-load_bench.field-0 ≡ held = sym (c.deref_mut.ensures.value ∙ c.new-bench.ensures) in
     locked_stopped g.W.Sink.contents g.W.Sink.has_failed c.args.writer.now c.answer_and_save.new.writer
-    (g.D.Disk.tells ≡ true) (g.D.Made.Sink.contents c.args.draft.now.made ≡ Some []) (IsChanged old name c.args.file.now c.args.call.now)
+    (g.D.Disk.tells ≡ true) (IsBlank (g.D.Made.Sink.contents c.args.draft.now.made) c.args.draft.now.is_placed) (IsChanged old name c.args.file.now c.args.call.now)
     held (asked_view c.asked_of-asked.result) (string_bytes c.args.draft.now.name) (string_bytes c.args.draft.now.place.name) c.answer_and_save.new.draft.is_placed
     old (g.D.Disk.view c.answer_and_save.new.disk)
     (λ told. record {

@@ -1,7 +1,8 @@
-use Rattle.std.proofs.Common.{◌≡◌, ◌∙◌, [], Some, true, string_bytes, sym, subst}
+use Rattle.std.proofs.Common.{◌≡◌, ◌∙◌, true, string_bytes, sym, subst}
 use Rattle.ssa_model.specs.definitions.History.{Bench}
 use Rattle.ssa_disk.specs.Files.{under}
 use Rattle.ssa_program.specs.Done.{BreaksOff, RunsToEnd}
+use Rattle.ssa_program.specs.Kept.{IsBlank}
 use Rattle.ssa_program.specs.Outcome.{IsBenchAt}
 use Rattle.ssa_program.proofs.Calls.{held_done, held_stopped}
 use Rattle.ssa_program.proofs.holding.hold_locked.Goals as goal
@@ -21,7 +22,7 @@ returns-clause-done g c =
     (string_bytes c.args.draft.now.name) (string_bytes c.args.draft.now.place.name) c.hold_and_save.new.draft.is_placed
     old (g.D.Disk.view c.hold_and_save.new.disk) name c.deref_mut.result.now c.hold_and_save.new.bench
     (λ told. subst (λ (b : Bench). IsBenchAt (under old name) b) same (c.in_ok-load_bench.ensures.loaded told))
-    (g.D.Made.Sink.contents c.args.draft.now.made ≡ Some []) c.hold_and_save.result c.hold_and_save.ensures.ended c.hold_and_save.ensures.runs c.hold_and_save.ensures.kept
+    (IsBlank (g.D.Made.Sink.contents c.args.draft.now.made) c.args.draft.now.is_placed) c.hold_and_save.result c.hold_and_save.ensures.ended c.hold_and_save.ensures.runs c.hold_and_save.ensures.kept
 
 pub returns-clause-stopped : goal.returns-clause-stopped
 returns-clause-stopped g c =
@@ -38,4 +39,5 @@ returns-clause-stopped g c =
     (string_bytes c.args.draft.now.name) (string_bytes c.args.draft.now.place.name) c.hold_and_save.new.draft.is_placed
     old (g.D.Disk.view c.hold_and_save.new.disk) name c.deref_mut.result.now c.hold_and_save.new.bench
     (λ told. subst (λ (b : Bench). IsBenchAt (under old name) b) same (c.in_ok-load_bench.ensures.loaded told))
-    c.hold_and_save.result c.hold_and_save.ensures.stopped c.hold_and_save.ensures.left
+    (IsBlank (g.D.Made.Sink.contents c.args.draft.now.made) c.args.draft.now.is_placed) c.args.draft.now.is_placed
+    c.hold_and_save.result (λ blank. blank.1) c.hold_and_save.ensures.stopped c.hold_and_save.ensures.unplaced c.hold_and_save.ensures.left

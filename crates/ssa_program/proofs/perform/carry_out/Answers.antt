@@ -1,5 +1,6 @@
 use Rattle.std.proofs.Common.{◌≡◌, true, sym, subst}
 use Rattle.std.specs.Result.{IfErr, IfOk}
+use Rattle.ssa_model.specs.definitions.Json.{Text}
 use Rattle.ssa_words.specs.declared.call.Call.{Call}
 use Rattle.ssa_program.specs.Done.{Changes, ChangeStops, IsDone, IsNamedBy, IsStopped}
 use Rattle.ssa_program.specs.Outcome.{IsChanged}
@@ -8,6 +9,7 @@ use Rattle.ssa_program.proofs.perform.carry_out.Goals as goal
 pub returns-in-Init-clause-done : goal.returns-in-Init-clause-done
 returns-in-Init-clause-done g c =
     subst (λ (k : Call). IfOk c.init.result (λ s. g.D.Disk.tells ≡ true → IsDone (g.D.Disk.view c.args.disk.now) (g.D.Disk.view c.init.new.disk)
+    (λ (n : Text). g.D.Disk.has_kept c.init.new.disk n ≡ true)
     g.W.Sink.contents g.W.Sink.has_failed c.args.writer.now c.init.new.writer
     (g.R.Source.remaining c.args.reader.now) (g.R.Source.remaining c.args.reader.now) (g.R.Source.has_failed c.args.reader.now ≡ true) k s))
     (sym c.in-Init.is) c.init.ensures.done
@@ -16,11 +18,12 @@ pub returns-in-Apply-clause-done : goal.returns-in-Apply-clause-done
 returns-in-Apply-clause-done g c =
     let old = g.D.Disk.view c.args.disk.now in
     let new = g.D.Disk.view c.change_bench.new.disk in
+    let stays = λ (n : Text). g.D.Disk.has_kept c.change_bench.new.disk n ≡ true in
     let left = g.R.Source.remaining c.args.reader.now in
-    subst (λ (k : Call). IfOk c.change_bench.result (λ s. g.D.Disk.tells ≡ true → IsDone old new
+    subst (λ (k : Call). IfOk c.change_bench.result (λ s. g.D.Disk.tells ≡ true → IsDone old new stays
     g.W.Sink.contents g.W.Sink.has_failed c.args.writer.now c.change_bench.new.writer left left (g.R.Source.has_failed c.args.reader.now ≡ true) k s))
     (sym c.in-Apply.is)
-    (subst (λ (k : Call). IfOk c.change_bench.result (λ s. g.D.Disk.tells ≡ true → Changes old new
+    (subst (λ (k : Call). IfOk c.change_bench.result (λ s. g.D.Disk.tells ≡ true → Changes old new stays
     g.W.Sink.contents g.W.Sink.has_failed c.args.writer.now c.change_bench.new.writer
     c.in-Apply.bench.now (λ files. IsChanged files c.in-Apply.bench.now c.in-Apply.file.now k) s))
     c.in-Apply.is c.change_bench.ensures.done)
@@ -29,11 +32,12 @@ pub returns-in-Update-clause-done : goal.returns-in-Update-clause-done
 returns-in-Update-clause-done g c =
     let old = g.D.Disk.view c.args.disk.now in
     let new = g.D.Disk.view c.change_bench-in-Update.new.disk in
+    let stays = λ (n : Text). g.D.Disk.has_kept c.change_bench-in-Update.new.disk n ≡ true in
     let left = g.R.Source.remaining c.args.reader.now in
-    subst (λ (k : Call). IfOk c.change_bench-in-Update.result (λ s. g.D.Disk.tells ≡ true → IsDone old new
+    subst (λ (k : Call). IfOk c.change_bench-in-Update.result (λ s. g.D.Disk.tells ≡ true → IsDone old new stays
     g.W.Sink.contents g.W.Sink.has_failed c.args.writer.now c.change_bench-in-Update.new.writer left left (g.R.Source.has_failed c.args.reader.now ≡ true) k s))
     (sym c.in-Update.is)
-    (subst (λ (k : Call). IfOk c.change_bench-in-Update.result (λ s. g.D.Disk.tells ≡ true → Changes old new
+    (subst (λ (k : Call). IfOk c.change_bench-in-Update.result (λ s. g.D.Disk.tells ≡ true → Changes old new stays
     g.W.Sink.contents g.W.Sink.has_failed c.args.writer.now c.change_bench-in-Update.new.writer
     c.in-Update.bench.now (λ files. IsChanged files c.in-Update.bench.now c.in-Update.file.now k) s))
     c.in-Update.is c.change_bench-in-Update.ensures.done)
@@ -42,11 +46,12 @@ pub returns-in-Apply-clause-stopped : goal.returns-in-Apply-clause-stopped
 returns-in-Apply-clause-stopped g c =
     let old = g.D.Disk.view c.args.disk.now in
     let new = g.D.Disk.view c.change_bench.new.disk in
+    let stays = λ (n : Text). g.D.Disk.has_kept c.change_bench.new.disk n ≡ true in
     let left = g.R.Source.remaining c.args.reader.now in
-    subst (λ (k : Call). IfErr c.change_bench.result (λ t. g.D.Disk.tells ≡ true → IsStopped old new
+    subst (λ (k : Call). IfErr c.change_bench.result (λ t. g.D.Disk.tells ≡ true → IsStopped old new stays
     g.W.Sink.contents g.W.Sink.has_failed c.args.writer.now c.change_bench.new.writer left left (g.R.Source.has_failed c.args.reader.now ≡ true) k t))
     (sym c.in-Apply.is)
-    (subst (λ (k : Call). IfErr c.change_bench.result (λ t. g.D.Disk.tells ≡ true → ChangeStops old new
+    (subst (λ (k : Call). IfErr c.change_bench.result (λ t. g.D.Disk.tells ≡ true → ChangeStops old new stays
     g.W.Sink.contents g.W.Sink.has_failed c.args.writer.now c.change_bench.new.writer
     c.in-Apply.bench.now (λ files. IsChanged files c.in-Apply.bench.now c.in-Apply.file.now k) t))
     c.in-Apply.is c.change_bench.ensures.stopped)
@@ -55,11 +60,12 @@ pub returns-in-Update-clause-stopped : goal.returns-in-Update-clause-stopped
 returns-in-Update-clause-stopped g c =
     let old = g.D.Disk.view c.args.disk.now in
     let new = g.D.Disk.view c.change_bench-in-Update.new.disk in
+    let stays = λ (n : Text). g.D.Disk.has_kept c.change_bench-in-Update.new.disk n ≡ true in
     let left = g.R.Source.remaining c.args.reader.now in
-    subst (λ (k : Call). IfErr c.change_bench-in-Update.result (λ t. g.D.Disk.tells ≡ true → IsStopped old new
+    subst (λ (k : Call). IfErr c.change_bench-in-Update.result (λ t. g.D.Disk.tells ≡ true → IsStopped old new stays
     g.W.Sink.contents g.W.Sink.has_failed c.args.writer.now c.change_bench-in-Update.new.writer left left (g.R.Source.has_failed c.args.reader.now ≡ true) k t))
     (sym c.in-Update.is)
-    (subst (λ (k : Call). IfErr c.change_bench-in-Update.result (λ t. g.D.Disk.tells ≡ true → ChangeStops old new
+    (subst (λ (k : Call). IfErr c.change_bench-in-Update.result (λ t. g.D.Disk.tells ≡ true → ChangeStops old new stays
     g.W.Sink.contents g.W.Sink.has_failed c.args.writer.now c.change_bench-in-Update.new.writer
     c.in-Update.bench.now (λ files. IsChanged files c.in-Update.bench.now c.in-Update.file.now k) t))
     c.in-Update.is c.change_bench-in-Update.ensures.stopped)
