@@ -11,12 +11,13 @@ use Rattle.std.specs.Ordering.{is_eq}
 use Rattle.ssa_members.specs.Members.{text_cmp}
 use Rattle.std.specs.Str.{bytes_eq}
 use Rattle.ssa_model.specs.definitions.Json.{Text, text, whole, truth, Json, scalar, list, object, Items, Members, no_members, member, member_of, same_text, as_text}
-use Rattle.ssa_model.specs.definitions.Schema.{has_member, is_text, list_of_texts, texts_of}
+use Rattle.ssa_model.specs.definitions.Values.{has_member, is_text, list_of_texts, texts_of, truth_in, text_in, texts_in, value_in}
 use Rattle.ssa_model.specs.definitions.Commands as given
-use Rattle.ssa_model.specs.definitions.Commands.{MemberRule, CommandRule, rule_of, word_of, is_known_member, are_known_members, follows_rule, is_subresource, subresource_in, truth_in, text_in, texts_in, value_in, command_with}
+use Rattle.ssa_model.specs.definitions.Commands.{MemberRule, CommandRule, rule_of, word_of, is_known_member, are_known_members, follows_rule, command_with}
 use Rattle.ssa_model.specs.definitions.Parts.{Subresource, status}
 use Rattle.ssa_model.specs.definitions.Answers as answers
 use Rattle.ssa_model.specs.definitions.Session.{LineFault, bad_moment, command_shape, has_moment, with_path, read_command}
+use Rattle.ssa_model.specs.definitions.Keys.{is_subresource, subresource_in}
 use Rattle.ssa_json.specs.View.{view, members_view}
 use Rattle.ssa_json.specs.declared.value.Json as values
 use Rattle.ssa_model.proofs.Tables.{same_text-true}

@@ -4,13 +4,14 @@ use Rattle.std.specs.Prelude.{codes}
 use Rattle.ssa_model.specs.definitions.Json.{Text, list, object, no_members, member, compact, compact_members}
 use Rattle.ssa_model.specs.definitions.Path.{Path, element_text}
 use Rattle.ssa_model.specs.definitions.Kind as kinds
-use Rattle.ssa_model.specs.definitions.Entries.{operation_text, part_members, text_json}
+use Rattle.ssa_model.specs.definitions.Keys.{operation_text, part_members}
 use Rattle.ssa_model.specs.definitions.Operations.{Clash}
 use Rattle.ssa_model.specs.definitions.Parts.{Subresource, main, status}
 use Rattle.ssa_model.specs.definitions.Answers.{Fault, body_fault}
 use Rattle.ssa_model.specs.definitions.GivenEntries as entries
 use Rattle.ssa_model.specs.definitions.Faults.{body_fault_code}
 use Rattle.ssa_model.specs.definitions.Replies.{clash_json, with_fault, fault_json, entry_fault_json, fault_reply, paths_json}
+use Rattle.ssa_model.specs.definitions.Values.{text_json}
 use Rattle.ssa_path.specs.PartMembers.{part_text}
 use Rattle.ssa_path.specs.PartMembers.{part-closed}
 use Rattle.ssa_schema.specs.Finds.{told}

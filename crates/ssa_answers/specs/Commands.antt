@@ -3,11 +3,13 @@ use Rattle.std.specs.Prelude.{◌≡◌, List, [], ◌∷◌, false, true, Optio
 use Rattle.ssa_members.specs.Texts.{text_bytes}
 use Rattle.ssa_model.specs.definitions.Json.{Text, Members, member_of, as_text}
 use Rattle.ssa_model.specs.definitions.Readings.{not_json, null_value, number_outside}
-use Rattle.ssa_model.specs.definitions.Commands.{MemberRule, text_member, truth_member, texts_member, part_member, any_member, needs, may_have, CommandRule, text_in, value_in, subresource_in}
+use Rattle.ssa_model.specs.definitions.Commands.{MemberRule, text_member, truth_member, texts_member, part_member, any_member, needs, may_have, CommandRule}
 use Rattle.ssa_model.specs.definitions.Answers as answers
 use Rattle.ssa_model.specs.definitions.Session as session
 use Rattle.ssa_model.specs.definitions.Session.{unread, bad_moment, command_shape, of_element}
 use Rattle.ssa_model.specs.definitions.ElementTexts.{bad_element, index_element, not_canonical}
+use Rattle.ssa_model.specs.definitions.Values.{text_in, value_in}
+use Rattle.ssa_model.specs.definitions.Keys.{subresource_in}
 use Rattle.ssa_json.specs.Moment.{is_moment}
 use Rattle.ssa_json.specs.View.{view}
 use Rattle.ssa_path.specs.PartMembers.{part_in}

@@ -5,7 +5,8 @@ use Rattle.ssa_model.specs.definitions.PathMap.{PathSet}
 use Rattle.ssa_model.specs.definitions.Operations.{conflict}
 use Rattle.ssa_model.specs.definitions.Faults as code
 use Rattle.ssa_model.specs.definitions.Faults.{Code, body_fault_code}
-use Rattle.ssa_model.specs.definitions.Replies.{list_json, clash_json, refusal_json, fault_json, fault_json_at}
+use Rattle.ssa_model.specs.definitions.Replies.{clash_json, refusal_json, fault_json, fault_json_at}
+use Rattle.ssa_model.specs.definitions.Values.{list_json}
 use Rattle.ssa_lines.specs.FaultTexts.{named_fault_json}
 use Rattle.ssa_schema.specs.Finds.{Told, told_view}
 use Rattle.ssa_merge.specs.GivenEntries.{entry_code}

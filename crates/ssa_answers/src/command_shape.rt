@@ -3,8 +3,9 @@ ghost use Rattle.std.specs.Prelude.{◌≡◌, ◌||◌, not, Some, None, MatchO
 ghost use Rattle.std.specs.List.{list_all};
 ghost use Rattle.ssa_json.specs.View.{view, members_view};
 ghost use Rattle.ssa_model.specs.definitions.Json.{same_text};
-ghost use Rattle.ssa_model.specs.definitions.Schema.{has_member, list_of_texts};
-ghost use Rattle.ssa_model.specs.definitions.Commands.{rule_of, word_of, is_subresource, is_truth, is_known_member, are_known_members, follows_rule};
+ghost use Rattle.ssa_model.specs.definitions.Values.{has_member, list_of_texts, is_truth};
+ghost use Rattle.ssa_model.specs.definitions.Commands.{rule_of, word_of, is_known_member, are_known_members, follows_rule};
+ghost use Rattle.ssa_model.specs.definitions.Keys.{is_subresource};
 ghost use Rattle.ssa_answers.specs.Commands.{word_text, member_rules, rule_at};
 
 use ssa_json::members::has_member;

@@ -7,8 +7,8 @@ use Rattle.std.proofs.lemmas.Option.{none-some}
 use Rattle.std.specs.Prelude.{codes, if◌then◌else◌, nat_lt, Result, Ok, Err}
 use Rattle.ssa_model.specs.definitions.Json.{Json, compact, same_text, member_at}
 use Rattle.ssa_model.specs.definitions.BenchText.{Format}
-use Rattle.ssa_model.specs.definitions.Commands.{value_in}
-use Rattle.ssa_model.specs.definitions.Entries.{text_json, version_in}
+use Rattle.ssa_model.specs.definitions.Values.{value_in, text_json, Test, has_members}
+use Rattle.ssa_model.specs.definitions.Entries.{version_in}
 use Rattle.ssa_model.specs.definitions.Formats.{can_tell_line, tells_parts}
 use Rattle.ssa_model.specs.definitions.Kind.{Kind}
 use Rattle.ssa_model.specs.definitions.MemberNames.{has_rising_names}
@@ -19,7 +19,7 @@ use Rattle.ssa_model.specs.definitions.Schema.{Schema}
 use Rattle.ssa_model.specs.definitions.History.{Bench, Label, applied, updated, stripped, Step, Timeline, appended, forgotten, last_state, past_len, present, preceded}
 use Rattle.ssa_model.specs.definitions.BenchFile.{IsLabel, IsReadBack, IsStep, IsValidBench}
 use Rattle.ssa_model.specs.definitions.Record.{record_of}
-use Rattle.ssa_model.specs.definitions.RecordReading.{Test, has_members, is_record_shape, HasReadPaths, IsReadState}
+use Rattle.ssa_model.specs.definitions.RecordReading.{is_record_shape, HasReadPaths, IsReadState}
 use Rattle.ssa_model.specs.definitions.RecordText.{record_json}
 use Rattle.ssa_model.specs.definitions.RecordedBench.{HasReadHistory, HasReadStep}
 use Rattle.ssa_model.specs.definitions.Table.{Table}

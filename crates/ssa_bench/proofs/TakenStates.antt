@@ -7,7 +7,7 @@ use Rattle.ssa_model.specs.definitions.Answers as model
 use Rattle.ssa_model.specs.definitions.Answers.{file_state}
 use Rattle.ssa_model.specs.definitions.BenchText.{states, step_json}
 use Rattle.ssa_model.specs.definitions.Formats.{can_tell_label, can_tell_state}
-use Rattle.ssa_model.specs.definitions.Commands.{value_in}
+use Rattle.ssa_model.specs.definitions.Values.{value_in}
 use Rattle.ssa_model.specs.definitions.History.{Bench, Label, applied, updated, stripped, Step, is_manager_name}
 use Rattle.ssa_model.specs.definitions.Json.{Json, member_at}
 use Rattle.ssa_model.specs.definitions.Operations.{State}

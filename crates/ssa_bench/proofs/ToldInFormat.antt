@@ -4,7 +4,7 @@ use Rattle.std.specs.Prelude.{codes, option_and_then, Result, Ok, Err}
 use Rattle.ssa_model.specs.definitions.Answers as model
 use Rattle.ssa_model.specs.definitions.Answers.{bench_of, bench_with, file_state}
 use Rattle.ssa_model.specs.definitions.BenchText.{Format, states, whole_object, first_json, step_json}
-use Rattle.ssa_model.specs.definitions.Commands.{value_in}
+use Rattle.ssa_model.specs.definitions.Values.{value_in}
 use Rattle.ssa_model.specs.definitions.Formats.{can_tell_label, can_tell_state}
 use Rattle.ssa_model.specs.definitions.History.{Bench, Label, Step}
 use Rattle.ssa_model.specs.definitions.Json.{Json, member_at}

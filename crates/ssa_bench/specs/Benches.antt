@@ -1,11 +1,11 @@
 -- What commands on a bench answer, and how the bench goes on.
 use Rattle.std.specs.Prelude.{◌≡◌, [], ◌∷◌, Option, None, Some, Result, Ok, Err, if◌then◌else◌, not, length, codes}
 use Rattle.ssa_model.specs.definitions.Objects.{value_at}
-use Rattle.ssa_model.specs.definitions.Commands.{text_in}
+use Rattle.ssa_model.specs.definitions.Values.{text_in}
 use Rattle.ssa_model.specs.definitions.Json.{Text, Json}
 use Rattle.ssa_model.specs.definitions.Body.{Body}
 use Rattle.ssa_model.specs.definitions.Parts.{Actor}
-use Rattle.ssa_model.specs.definitions.Table.{Table, key_of, updates}
+use Rattle.ssa_model.specs.definitions.Table.{Table}
 use Rattle.ssa_model.specs.definitions.GivenEntries.{EntryFault, table_of}
 use Rattle.ssa_model.specs.definitions.History as model
 use Rattle.ssa_model.specs.definitions.History.{advanced, is_manager_name, present}
@@ -15,6 +15,7 @@ use Rattle.ssa_model.specs.definitions.Operations.{update}
 use Rattle.ssa_model.specs.definitions.Answers as answers
 use Rattle.ssa_model.specs.definitions.Answers.{Answer}
 use Rattle.ssa_model.specs.definitions.Valid.{IsNextStep, IsValidState}
+use Rattle.ssa_model.specs.definitions.Keys.{key_of, updates}
 use Rattle.ssa_json.specs.Readings.{readings}
 use Rattle.ssa_merge.specs.States.{state_view}
 use Rattle.ssa_merge.specs.TableChanges.{changed_table}

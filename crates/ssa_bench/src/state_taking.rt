@@ -1,7 +1,7 @@
 //! The parts of a line of a bench file of whole states.
 ghost use Rattle.std.specs.Prelude.{◌≡◌, ◌&&◌, codes, IfOk, option_map};
 ghost use Rattle.ssa_model.specs.definitions.Answers.{file_state};
-ghost use Rattle.ssa_model.specs.definitions.Commands.{value_in};
+ghost use Rattle.ssa_model.specs.definitions.Values.{value_in};
 ghost use Rattle.ssa_model.specs.definitions.Formats.{is_main_label, is_main_state};
 ghost use Rattle.ssa_model.specs.definitions.Json.{member_at};
 ghost use Rattle.ssa_model.specs.definitions.Valid.{IsValidState};

@@ -8,7 +8,7 @@ ghost use Rattle.ssa_model.specs.definitions.Limits.{most_bench_bytes};
 ghost use Rattle.ssa_model.specs.definitions.Objects.{with_member};
 ghost use Rattle.ssa_model.specs.definitions.Operations.{State};
 ghost use Rattle.ssa_model.specs.definitions.RecordedBench.{record_head, record_line, recorded_text, recorded_values};
-ghost use Rattle.ssa_model.specs.definitions.Replies.{number_json};
+ghost use Rattle.ssa_model.specs.definitions.Values.{number_json};
 ghost use Rattle.ssa_model.specs.definitions.Takes.{Takes};
 ghost use Rattle.ssa_model.specs.definitions.Valid.{IsValidHistory};
 ghost use Rattle.ssa_json.specs.View.{view, members_view};

@@ -3,7 +3,7 @@ use Rattle.std.proofs.Common.{◌≡◌, ℕ, ◌+◌, ◌<◌, ◌≤◌, List,
 use Rattle.std.proofs.lemmas.Bool.{and_parts, and_from}
 use Rattle.std.proofs.lemmas.List.{take_more}
 use Rattle.ssa_model.specs.definitions.Json.{Text, Json, list, Items, no_items, item, comma_if, compact}
-use Rattle.ssa_model.specs.definitions.Replies.{items_json}
+use Rattle.ssa_model.specs.definitions.Values.{items_json}
 pub use Rattle.ssa_model.proofs.ItemTexts.{appended, items_json-map, joined, list-written, rest_text}
 use Rattle.ssa_model.proofs.ItemTexts.{rest_text-more}
 use Rattle.ssa_json.specs.Writable.{IsOfProgram, has_utf8, has_rising_names, items_have_utf8, items_have_rising_names}

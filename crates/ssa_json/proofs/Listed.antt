@@ -1,7 +1,7 @@
 -- Lists of values, told by what each of them is made of.
 use Rattle.std.proofs.Common.{◌≡◌, List, [], ◌∷◌, map, refl, ap}
 use Rattle.ssa_model.specs.definitions.Json.{Json, item}
-use Rattle.ssa_model.specs.definitions.Replies.{items_json}
+use Rattle.ssa_model.specs.definitions.Values.{items_json}
 use Rattle.ssa_json.specs.View.{items_of}
 
 -- the items that a function makes of a list

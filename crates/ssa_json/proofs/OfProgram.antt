@@ -9,7 +9,7 @@ use Rattle.std.specs.Str.{is_utf8}
 use Rattle.ssa_members.proofs.Texts.{text_is_utf8}
 use Rattle.ssa_members.specs.Texts.{text_bytes}
 use Rattle.ssa_members.specs.declared.small_text.SmallText.{SmallText}
-use Rattle.ssa_model.specs.definitions.Entries.{text_json}
+use Rattle.ssa_model.specs.definitions.Values.{text_json}
 use Rattle.ssa_model.specs.definitions.Json.{Text, Json as Value, object, Members, no_members, member}
 use Rattle.ssa_json.specs.View.{view, items_view, members_view}
 use Rattle.ssa_json.specs.Writable.{IsOfProgram, has_utf8, items_have_utf8, members_have_utf8, is_below, has_rising_names, items_have_rising_names, members_rise}

@@ -2,7 +2,7 @@
 ghost use Rattle.std.specs.Prelude.{◌≡◌};
 ghost use Rattle.ssa_model.specs.definitions.Json.{compact};
 ghost use Rattle.ssa_model.specs.definitions.Faults.{name_of, number_of};
-ghost use Rattle.ssa_model.specs.definitions.Replies.{number_json};
+ghost use Rattle.ssa_model.specs.definitions.Values.{number_json};
 ghost use Rattle.ssa_json.specs.FaultCodes.{code_view};
 
 /// A fault as it is told, without what it says beside its number and its name. Each type of faults

@@ -1,8 +1,7 @@
 //! Values made of counts, of texts and of pairs.
 ghost use Rattle.std.specs.Prelude.{◌≡◌, ◌<◌, ◌^◌, IfOk};
-ghost use Rattle.ssa_model.specs.definitions.Entries.{text_json};
+ghost use Rattle.ssa_model.specs.definitions.Values.{text_json, number_json};
 ghost use Rattle.ssa_model.specs.definitions.Json.{item, list, no_items};
-ghost use Rattle.ssa_model.specs.definitions.Replies.{number_json};
 ghost use Rattle.ssa_json.specs.View.{view};
 
 use crate::value::{Json, Scalar};

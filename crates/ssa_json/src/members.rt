@@ -1,9 +1,8 @@
 //! Members of objects.
 ghost use Rattle.std.specs.Prelude.{◌≡◌, OnErr, OnOk, option_map};
-ghost use Rattle.ssa_model.specs.definitions.Entries.{text_json};
+ghost use Rattle.ssa_model.specs.definitions.Values.{text_json, has_member};
 ghost use Rattle.ssa_model.specs.definitions.Json.{member_of};
 ghost use Rattle.ssa_model.specs.definitions.Objects.{with_member};
-ghost use Rattle.ssa_model.specs.definitions.Schema.{has_member};
 ghost use Rattle.ssa_json.specs.View.{view, members_view};
 
 use crate::value::{Json, Scalar};

@@ -2,9 +2,8 @@
 //! by a writer with the same contract.
 ghost use Rattle.std.specs.Prelude.{◌≡◌, ◌≤◌, [], ◌∷◌, ◌++◌, Ok, IfOk, OnOk, string_bytes, false, true};
 ghost use Rattle.std.specs.Str.{is_utf8};
-ghost use Rattle.ssa_model.specs.definitions.Entries.{text_json};
+ghost use Rattle.ssa_model.specs.definitions.Values.{text_json, number_json};
 ghost use Rattle.ssa_model.specs.definitions.Json.{comma_if, compact, compact_items, compact_members, quoted, scalar_text, whole_text};
-ghost use Rattle.ssa_model.specs.definitions.Replies.{number_json};
 ghost use Rattle.ssa_json.specs.MemberTexts.{member_text, name_text};
 ghost use Rattle.ssa_json.specs.Reading.{json_reading};
 ghost use Rattle.ssa_json.specs.View.{view, scalar_view, items_view, members_view};

@@ -4,7 +4,8 @@ use Rattle.std.specs.Prelude.{codes}
 use Rattle.ssa_model.specs.definitions.Json.{Json, object, no_members, member, compact}
 use Rattle.ssa_model.specs.definitions.Faults as code
 use Rattle.ssa_model.specs.definitions.Faults.{Code, number_of}
-use Rattle.ssa_model.specs.definitions.Replies.{number_json, with_fault, fault_json}
+use Rattle.ssa_model.specs.definitions.Replies.{with_fault, fault_json}
+use Rattle.ssa_model.specs.definitions.Values.{number_json}
 use Rattle.ssa_lines.specs.FaultTexts.{code_members, name_end}
 
 -- the text that is written of a code is the one of its value

@@ -1,10 +1,10 @@
 -- How a fault is told: as a JSON value, and the parts of its text.
 use Rattle.std.specs.Prelude.{List, [], ◌∷◌, ◌++◌, codes}
 use Rattle.ssa_model.specs.definitions.Json.{Text, Json, object, member, no_members, compact}
-use Rattle.ssa_model.specs.definitions.Entries.{text_json}
+use Rattle.ssa_model.specs.definitions.Values.{text_json, number_json, list_json}
 use Rattle.ssa_model.specs.definitions.Faults.{Code, number_of, name_of}
 use Rattle.ssa_model.specs.definitions.Lines.{line_feed}
-use Rattle.ssa_model.specs.definitions.Replies.{number_json, list_json, with_fault}
+use Rattle.ssa_model.specs.definitions.Replies.{with_fault}
 
 -- a path by the texts of its elements
 abbrev pub names_json : List Text → Json

@@ -1,8 +1,7 @@
 //! Appends JSON text, piece by piece.
 ghost use Rattle.std.specs.Prelude.{◌≡◌, ◌++◌, OnOk, map, string_bytes};
 ghost use Rattle.ssa_model.specs.definitions.Json.{compact};
-ghost use Rattle.ssa_model.specs.definitions.Entries.{text_json};
-ghost use Rattle.ssa_model.specs.definitions.Replies.{number_json};
+ghost use Rattle.ssa_model.specs.definitions.Values.{text_json, number_json};
 ghost use Rattle.ssa_json.specs.View.{view};
 ghost use Rattle.ssa_lines.specs.FaultTexts.{names_json};
 

@@ -5,8 +5,9 @@ use Rattle.std.proofs.lemmas.List.{map-append}
 use Rattle.std.proofs.lemmas.List.Folds.{list_any-append}
 use Rattle.ssa_model.specs.definitions.Json.{Text}
 use Rattle.ssa_model.specs.definitions.PathMap.{PathSet, empty, is_empty, minus, same_set}
-use Rattle.ssa_model.specs.definitions.Table.{ManagerKey, Entry, Table, is_in_table, owned_by, reseated, same_manager, seat}
+use Rattle.ssa_model.specs.definitions.Table.{Entry, Table, is_in_table, owned_by, reseated, seat}
 use Rattle.ssa_model.specs.definitions.Valid.{has_distinct_keys}
+use Rattle.ssa_model.specs.definitions.Keys.{ManagerKey, same_manager}
 use Rattle.ssa_model.proofs.Basics.{or-false, or_true}
 use Rattle.ssa_model.proofs.ManagerEntries.{entry-absent}
 use Rattle.ssa_model.proofs.Tables.{same_manager-true}

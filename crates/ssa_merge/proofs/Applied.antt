@@ -9,9 +9,10 @@ use Rattle.ssa_model.specs.definitions.Json.{Text}
 use Rattle.ssa_model.specs.definitions.PathMap.{size, union, PathSet}
 use Rattle.ssa_model.specs.definitions.Body as bodies
 use Rattle.ssa_model.specs.definitions.Body.{points, modified}
-use Rattle.ssa_model.specs.definitions.Table.{ManagerKey, Table, seat}
+use Rattle.ssa_model.specs.definitions.Table.{Table, seat}
 use Rattle.ssa_model.specs.definitions.Operations as model
 use Rattle.ssa_model.specs.definitions.Operations.{State, Clash, decided, conflict, too_many_paths, too_many_managers, is_none, if_seated, owned_outside, pruned, clashes}
+use Rattle.ssa_model.specs.definitions.Keys.{ManagerKey}
 use Rattle.ssa_typed.specs.Differences.{IsComparison}
 use Rattle.ssa_merge.specs.TableChanges.{IsSeated, LeadsTo}
 use Rattle.ssa_merge.specs.Managers.{conflict_view}

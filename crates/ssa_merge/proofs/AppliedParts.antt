@@ -6,7 +6,7 @@ use Rattle.ssa_model.specs.definitions.Path.{Path, is_root, under}
 use Rattle.ssa_model.specs.definitions.PathMap.{PathSet, empty, has, has_at_or_below, is_empty, paths, set_of, size}
 use Rattle.ssa_model.specs.definitions.Body as model
 use Rattle.ssa_model.specs.definitions.Body.{over, points, removed, restricted}
-use Rattle.ssa_model.specs.definitions.Table.{ManagerKey}
+use Rattle.ssa_model.specs.definitions.Keys.{ManagerKey}
 use Rattle.ssa_model.specs.definitions.Operations.{State, dropped, kept, pruned}
 use Rattle.ssa_model.specs.definitions.Valid.{AllEntries, IsRooted, OwnsOwnable}
 use Rattle.ssa_model.proofs.Basics.{and-false, not_true, or_true, yes_no}

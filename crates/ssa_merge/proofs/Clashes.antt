@@ -3,8 +3,9 @@ use Rattle.std.proofs.Common.{◌≡◌, List, [], ◌∷◌, ◌++◌, true, fa
 use Rattle.std.proofs.lemmas.List.{map-append, append_assoc}
 use Rattle.std.specs.Prelude.{if◌then◌else◌}
 use Rattle.ssa_model.specs.definitions.PathMap.{PathSet, has, is_empty, paths, set_of}
-use Rattle.ssa_model.specs.definitions.Table.{ManagerKey, Entry, Table, same_manager}
+use Rattle.ssa_model.specs.definitions.Table.{Entry, Table}
 use Rattle.ssa_model.specs.definitions.Operations.{Clash, clashes, clashes_of}
+use Rattle.ssa_model.specs.definitions.Keys.{ManagerKey, same_manager}
 use Rattle.ssa_path.specs.Meet.{meet}
 use Rattle.ssa_path.proofs.Sets.{meet-comm}
 use Rattle.ssa_merge.specs.Managers.{clash_view, clashes_view, key_view}

@@ -6,10 +6,11 @@ use Rattle.ssa_model.specs.definitions.Body.{Body}
 use Rattle.ssa_model.specs.definitions.ElementTexts.{ElementFault}
 use Rattle.ssa_model.specs.definitions.FieldsV1.{fields_faults, said_set}
 use Rattle.ssa_model.specs.definitions.GivenEntries as model
-use Rattle.ssa_model.specs.definitions.GivenEntries.{bad_entry, manager_name, other_version, bad_moment, of_fields, empty_entry, absent_path, duplicate_manager, is_entry, entry_fault, not_ownable, operation_of, operation_in, owned_fault, said_entry, value_entry}
+use Rattle.ssa_model.specs.definitions.GivenEntries.{bad_entry, manager_name, other_version, bad_moment, of_fields, empty_entry, absent_path, duplicate_manager, is_entry, entry_fault, not_ownable, owned_fault, said_entry, value_entry}
 use Rattle.ssa_model.specs.definitions.History.{is_manager_name}
 use Rattle.ssa_model.specs.definitions.PathMap.{PathSet}
-use Rattle.ssa_model.specs.definitions.Table.{Entry, Operation, Table, applies}
+use Rattle.ssa_model.specs.definitions.Table.{Entry, Table}
+use Rattle.ssa_model.specs.definitions.Keys.{operation_of, operation_in, Operation, applies}
 use Rattle.ssa_json.specs.Moment.{is_moment}
 use Rattle.ssa_json.specs.Reading.{json_reading}
 use Rattle.ssa_json.specs.Readings.{readings}

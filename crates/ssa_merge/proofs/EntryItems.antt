@@ -1,11 +1,13 @@
 -- An entry from its members, and the entries of a table, one after the other.
 use Rattle.std.proofs.Common.{◌≡◌, [], ◌∷◌, codes, map, refl, ap}
-use Rattle.ssa_model.specs.definitions.Entries.{entry_items, entry_json, operation_text, text_json}
+use Rattle.ssa_model.specs.definitions.Entries.{entry_items, entry_json}
 use Rattle.ssa_model.specs.definitions.FieldsV1.{fields_json}
 use Rattle.ssa_model.specs.definitions.Json.{Json, Members, Text, item, no_members, object}
 use Rattle.ssa_model.specs.definitions.Objects.{with_member}
 use Rattle.ssa_model.specs.definitions.Parts.{Subresource, main, status}
 use Rattle.ssa_model.specs.definitions.Table.{Entry, Table}
+use Rattle.ssa_model.specs.definitions.Keys.{operation_text}
+use Rattle.ssa_model.specs.definitions.Values.{text_json}
 use Rattle.ssa_path.specs.PartMembers.{with_part}
 use Rattle.ssa_json.specs.View.{items_of}
 

@@ -10,12 +10,10 @@ use Rattle.std.specs.Cmp.Lexicographic.{slice_cmp, nat_list_cmp_total}
 use Rattle.std.specs.FinMap.{slice_cmp-IsAntisymmetric, nat_cmp-IsAntisymmetric}
 use Rattle.std.specs.FinMap.Entries.{find, is_sorted, below_all, same_entries}
 use Rattle.ssa_model.specs.definitions.Json.{Text, Json, scalar, text, Members, no_members, member, member_of, same_text}
-use Rattle.ssa_model.specs.definitions.Commands.{text_in, value_in, is_subresource, subresource_in}
-use Rattle.ssa_model.specs.definitions.Entries.{operation_text, text_json}
-use Rattle.ssa_model.specs.definitions.GivenEntries.{entry_texts, is_entry_member, are_entry_members, operation_of, text_at, fields_in}
+use Rattle.ssa_model.specs.definitions.Values.{text_in, value_in, text_json, text_at, has_member, is_text}
+use Rattle.ssa_model.specs.definitions.Keys.{is_subresource, subresource_in, operation_text, operation_of, Operation, applies, updates}
+use Rattle.ssa_model.specs.definitions.GivenEntries.{entry_texts, is_entry_member, are_entry_members, fields_in}
 use Rattle.ssa_model.specs.definitions.Parts.{Subresource, main, status}
-use Rattle.ssa_model.specs.definitions.Schema.{has_member, is_text}
-use Rattle.ssa_model.specs.definitions.Table.{Operation, applies, updates}
 use Rattle.ssa_json.specs.View.{view, members_view}
 use Rattle.ssa_json.specs.declared.value.Json as json
 use Rattle.ssa_path.specs.PartMembers.{part_in}

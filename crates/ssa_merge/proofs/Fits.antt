@@ -6,7 +6,7 @@ use Rattle.ssa_model.specs.definitions.Kind.{Kind}
 use Rattle.ssa_model.specs.definitions.Fitting.{IsBodyOf}
 use Rattle.ssa_model.specs.definitions.Body.{Body}
 use Rattle.ssa_model.specs.definitions.Parts.{part_of}
-use Rattle.ssa_model.specs.definitions.Table.{ManagerKey}
+use Rattle.ssa_model.specs.definitions.Keys.{ManagerKey}
 use Rattle.ssa_model.specs.definitions.Operations.{State, apply, update}
 use Rattle.ssa_model.proofs.Accepted.{applied_is, updated_is}
 use Rattle.ssa_model.proofs.BodyParts.{part-is-body, spliced-is-body}

@@ -5,8 +5,9 @@ use Rattle.ssa_model.specs.definitions.Path.{Path, is_key_field, is_root, same_p
 use Rattle.ssa_model.specs.definitions.PathMap.{PathSet, empty, has, has_at_or_above, has_at_or_below, is_empty, paths, same_set, set_of, minus, union}
 use Rattle.ssa_model.specs.definitions.Body as model
 use Rattle.ssa_model.specs.definitions.Parts.{Subresource, is_path_of}
-use Rattle.ssa_model.specs.definitions.Table.{ManagerKey, Entry, Table, entry_of, same_manager, owned_by, owned_by_others}
+use Rattle.ssa_model.specs.definitions.Table.{Entry, Table, entry_of, owned_by, owned_by_others}
 use Rattle.ssa_model.specs.definitions.Operations.{State, dropped, kept, pruned}
+use Rattle.ssa_model.specs.definitions.Keys.{ManagerKey, same_manager}
 use Rattle.ssa_model.proofs.PathMaps.{has-minus, has-paths, has-set_of, has-union, same_set-true, same_sets, is_one_of}
 use Rattle.ssa_model.proofs.Tables.{true_or}
 use Rattle.ssa_model.proofs.FittingTables.{no-path, same_set-itself}

@@ -5,7 +5,8 @@ use Rattle.std.specs.Cmp.{both_ways}
 use Rattle.std.specs.Prelude.{if◌then◌else◌}
 use Rattle.ssa_model.specs.definitions.Path.{Path, under}
 use Rattle.ssa_model.specs.definitions.PathMap.{PathSet, empty, has, has_at_or_below, is_empty, paths, set_of, union}
-use Rattle.ssa_model.specs.definitions.Table.{ManagerKey, Entry, Table, owned_by_others, same_manager}
+use Rattle.ssa_model.specs.definitions.Table.{Entry, Table, owned_by_others}
+use Rattle.ssa_model.specs.definitions.Keys.{ManagerKey, same_manager}
 use Rattle.ssa_model.proofs.PathMaps.{has-paths, has-set_of, has-union, is_one_of, same_sets}
 use Rattle.ssa_model.proofs.Pruned.{some_one}
 use Rattle.ssa_model.proofs.Tables.{either, true_or}

@@ -6,9 +6,10 @@ use Rattle.ssa_model.specs.definitions.PathMap.{PathSet, get, has, has_at_or_abo
 use Rattle.ssa_model.specs.definitions.Body as model
 use Rattle.ssa_model.specs.definitions.Body.{is_bare, is_dict, is_leaf, is_ownable, is_point, over, points}
 use Rattle.ssa_model.specs.definitions.Parts.{is_path_of}
-use Rattle.ssa_model.specs.definitions.Table.{ManagerKey, Table, owned_by, owned_by_others}
+use Rattle.ssa_model.specs.definitions.Table.{Table, owned_by, owned_by_others}
 use Rattle.ssa_model.specs.definitions.Operations.{State, dropped, kept, pruned}
 use Rattle.ssa_model.specs.definitions.Valid.{AllEntries, OwnsOwnable}
+use Rattle.ssa_model.specs.definitions.Keys.{ManagerKey}
 use Rattle.ssa_model.proofs.Basics.{not_true, or_true, yes_no}
 use Rattle.ssa_model.proofs.PathMaps.{has-paths, has-points, has-set_of, has-union, is_one_of}
 use Rattle.ssa_model.proofs.Pruned.{some_one, under-trans}

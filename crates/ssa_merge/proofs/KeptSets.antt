@@ -6,8 +6,9 @@ use Rattle.ssa_model.specs.definitions.Body as model
 use Rattle.ssa_model.specs.definitions.Body.{is_point, points}
 use Rattle.ssa_model.specs.definitions.Operations.{State}
 use Rattle.ssa_model.specs.definitions.Parts.{is_path_of}
-use Rattle.ssa_model.specs.definitions.Table.{ManagerKey, Entry, entry_of, owned_by, same_manager}
+use Rattle.ssa_model.specs.definitions.Table.{Entry, entry_of, owned_by}
 use Rattle.ssa_model.specs.definitions.Valid.{AllEntries, has_distinct_keys}
+use Rattle.ssa_model.specs.definitions.Keys.{ManagerKey, same_manager}
 use Rattle.ssa_model.proofs.ManagerEntries.{entry-own}
 use Rattle.ssa_model.proofs.PathMaps.{has-paths, has-set_of, is_one_of, same_sets}
 use Rattle.ssa_model.proofs.Tables.{same_manager-true}

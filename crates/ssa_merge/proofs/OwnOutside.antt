@@ -7,7 +7,8 @@ use Rattle.ssa_model.specs.definitions.Operations.{owned_outside}
 use Rattle.ssa_model.specs.definitions.Parts.{Subresource, is_path_of, part_of}
 use Rattle.ssa_model.specs.definitions.Path.{Path, is_root}
 use Rattle.ssa_model.specs.definitions.PathMap.{PathSet, empty, get, has, is_empty, paths, set_of, union}
-use Rattle.ssa_model.specs.definitions.Table.{ManagerKey, Entry, Table, entry_of, owned_by}
+use Rattle.ssa_model.specs.definitions.Table.{Entry, Table, entry_of, owned_by}
+use Rattle.ssa_model.specs.definitions.Keys.{ManagerKey}
 use Rattle.ssa_model.proofs.FittingTables.{no-path}
 use Rattle.ssa_model.proofs.PathMaps.{get-restricted, has-paths, has-points, has-set_of, is_one_of}
 use Rattle.ssa_model.proofs.Tables.{has-restricted}

@@ -7,9 +7,10 @@ use Rattle.ssa_model.specs.definitions.Path.{Path, is_root, same_element, under}
 use Rattle.ssa_model.specs.definitions.PathMap.{PathSet, get, has, has_at_or_above, has_at_or_below, paths, union}
 use Rattle.ssa_model.specs.definitions.Body as model
 use Rattle.ssa_model.specs.definitions.Body.{is_leaf, is_ownable, is_point, over, points, restricted_content, strictly_under}
-use Rattle.ssa_model.specs.definitions.Table.{ManagerKey, Table, owned_by_others, same_manager}
+use Rattle.ssa_model.specs.definitions.Table.{Table, owned_by_others}
 use Rattle.ssa_model.specs.definitions.Operations.{State, dropped, kept, pruned}
 use Rattle.ssa_model.specs.definitions.Valid.{AllEntries, IsRooted, OwnsOwnable, metadata_path}
+use Rattle.ssa_model.specs.definitions.Keys.{ManagerKey, same_manager}
 use Rattle.ssa_model.proofs.PathMaps.{get-restricted, has-paths, has-points, has-set_of, has-union, is_one_of}
 use Rattle.ssa_model.proofs.Fitting.{same_element-true}
 use Rattle.ssa_model.proofs.Pruned.{from_one, some_one}

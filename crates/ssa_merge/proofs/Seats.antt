@@ -7,11 +7,12 @@ use Rattle.std.proofs.lemmas.List.Filters.{length-filter_both}
 use Rattle.std.proofs.lemmas.List.Elements.{filter-append}
 use Rattle.ssa_model.specs.definitions.Json.{Text}
 use Rattle.ssa_model.specs.definitions.PathMap.{PathSet, empty, is_empty, same_set, minus}
-use Rattle.ssa_model.specs.definitions.Table.{ManagerKey, Entry, Table, same_manager, is_in_table, reseated, seat}
+use Rattle.ssa_model.specs.definitions.Table.{Entry, Table, is_in_table, reseated, seat}
 use Rattle.ssa_model.proofs.Tables.{manager-itself, seat_keeps}
 use Rattle.ssa_model.specs.definitions.Limits.{most_managers}
 use Rattle.ssa_model.specs.definitions.History.{is_manager_name}
 use Rattle.ssa_model.specs.definitions.Valid.{IsManagers}
+use Rattle.ssa_model.specs.definitions.Keys.{ManagerKey, same_manager}
 use Rattle.ssa_merge.specs.Managers.{entry_view, table_view}
 use Rattle.ssa_merge.specs.Tables.{owns}
 use Rattle.ssa_merge.specs.TableChanges.{changed_entries, LeadsTo}

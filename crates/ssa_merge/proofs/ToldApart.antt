@@ -7,7 +7,7 @@ use Rattle.ssa_model.specs.definitions.Path.{Element, Path, is_item, is_root, pa
 use Rattle.ssa_model.specs.definitions.PathMap.{empty, get, has, has_at_or_below, paths, set_of}
 use Rattle.ssa_model.specs.definitions.Body as model
 use Rattle.ssa_model.specs.definitions.Body.{Content, leaf, atom, record_branch, dict_branch, list_branch, added, is_bare, is_dict, is_leaf, is_other_leaf, is_point, modified, over, over_content, points, removed, restricted_content, strictly_under}
-use Rattle.ssa_model.specs.definitions.Table.{ManagerKey}
+use Rattle.ssa_model.specs.definitions.Keys.{ManagerKey}
 use Rattle.ssa_model.specs.definitions.Operations.{State, kept, pruned}
 use Rattle.ssa_model.proofs.Basics.{and-false, or_true, yes_no}
 use Rattle.ssa_model.proofs.FittingTells.{parent_above}

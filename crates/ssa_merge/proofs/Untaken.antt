@@ -4,8 +4,9 @@ use Rattle.std.proofs.lemmas.List.{map-append}
 use Rattle.std.specs.Prelude.{if◌then◌else◌}
 use Rattle.ssa_model.specs.definitions.Json.{Text}
 use Rattle.ssa_model.specs.definitions.PathMap.{PathSet, empty, is_empty, same_set, minus}
-use Rattle.ssa_model.specs.definitions.Table.{ManagerKey, Entry, Table, is_in_table, reseated, same_manager, seat}
+use Rattle.ssa_model.specs.definitions.Table.{Entry, Table, is_in_table, reseated, seat}
 use Rattle.ssa_model.specs.definitions.Operations.{Clash, clashes, clashes_of, is_none}
+use Rattle.ssa_model.specs.definitions.Keys.{ManagerKey, same_manager}
 use Rattle.ssa_path.specs.Meet.{meet}
 use Rattle.ssa_merge.specs.Tables.{owns}
 use Rattle.ssa_merge.proofs.GivenUp.{meet-none, minus-none}

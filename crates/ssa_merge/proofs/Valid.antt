@@ -8,10 +8,11 @@ use Rattle.ssa_model.specs.definitions.PathMap.{PathSet, minus, union}
 use Rattle.ssa_model.specs.definitions.Body.{Body, points, added, modified, removed}
 use Rattle.ssa_model.specs.definitions.History.{is_manager_name}
 use Rattle.ssa_model.specs.definitions.Parts.{part_of, spliced}
-use Rattle.ssa_model.specs.definitions.Table.{ManagerKey, is_in_table, owned_by}
+use Rattle.ssa_model.specs.definitions.Table.{is_in_table, owned_by}
 use Rattle.ssa_model.specs.definitions.Operations as model
 use Rattle.ssa_model.specs.definitions.Operations.{State, owned_outside, pruned, apply, update, strip}
 use Rattle.ssa_model.specs.definitions.Valid.{IsRooted, IsValidState, KeepsOrder, has_distinct_keys}
+use Rattle.ssa_model.specs.definitions.Keys.{ManagerKey}
 use Rattle.ssa_model.specs.laws.KeepsValid.{StaysOutside}
 use Rattle.ssa_model.proofs.Accepted.{applied_is, updated_is}
 use Rattle.ssa_model.proofs.Outside.{apply_stays_in_part, update_stays_in_part}

@@ -6,12 +6,12 @@ use Rattle.ssa_model.specs.definitions.Json.{Text, Json, scalar, list, object, M
 use Rattle.ssa_model.specs.definitions.Parts.{Subresource}
 use Rattle.ssa_model.specs.definitions.Path.{Path}
 use Rattle.ssa_model.specs.definitions.PathMap.{PathSet}
-use Rattle.ssa_model.specs.definitions.Commands.{subresource_in}
-use Rattle.ssa_model.specs.definitions.Entries.{operation_text, part_members, text_json}
+use Rattle.ssa_model.specs.definitions.Keys.{subresource_in, operation_text, part_members, operation_of, ManagerKey}
+use Rattle.ssa_model.specs.definitions.Values.{text_json, text_at}
 use Rattle.ssa_model.specs.definitions.GivenEntries as model
-use Rattle.ssa_model.specs.definitions.GivenEntries.{is_entry, text_at, fields_in, operation_of}
+use Rattle.ssa_model.specs.definitions.GivenEntries.{is_entry, fields_in}
 use Rattle.ssa_model.specs.definitions.Table as table
-use Rattle.ssa_model.specs.definitions.Table.{ManagerKey, Table}
+use Rattle.ssa_model.specs.definitions.Table.{Table}
 use Rattle.ssa_path.specs.Subresources.{part_view}
 use Rattle.ssa_path.specs.declared.element_fault.ElemFault.{ElemFault}
 use Rattle.ssa_path.specs.declared.element_fault.ElemFault.TheVariants as fields

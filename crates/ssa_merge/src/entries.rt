@@ -1,7 +1,8 @@
 //! The table of managers as the entries of `managedFields`.
 ghost use Rattle.std.specs.Prelude.{◌≡◌, IfOk};
-ghost use Rattle.ssa_model.specs.definitions.Entries.{entry_items, entry_json, text_json};
+ghost use Rattle.ssa_model.specs.definitions.Entries.{entry_items, entry_json};
 ghost use Rattle.ssa_model.specs.definitions.Json.{list};
+ghost use Rattle.ssa_model.specs.definitions.Values.{text_json};
 ghost use Rattle.ssa_json.specs.View.{view};
 ghost use Rattle.ssa_merge.specs.Managers.{entry_view};
 

@@ -1,9 +1,10 @@
 //! The table of managers read from the entries of `managedFields`.
 ghost use Rattle.std.specs.Prelude.{◌≡◌, [], IfOk};
-ghost use Rattle.ssa_model.specs.definitions.Entries.{entry_items, text_json};
+ghost use Rattle.ssa_model.specs.definitions.Entries.{entry_items};
 ghost use Rattle.ssa_model.specs.definitions.GivenEntries.{table_behind, table_of};
 ghost use Rattle.ssa_model.specs.definitions.Json.{list};
 ghost use Rattle.ssa_model.specs.definitions.Valid.{IsTable};
+ghost use Rattle.ssa_model.specs.definitions.Values.{text_json};
 ghost use Rattle.ssa_json.specs.Readings.{readings};
 ghost use Rattle.ssa_json.specs.View.{items_view, view};
 ghost use Rattle.ssa_merge.specs.GivenEntries.{GivesEntries};

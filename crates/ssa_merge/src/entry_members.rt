@@ -3,10 +3,10 @@ ghost use Rattle.std.specs.Prelude.{◌≡◌, ◌∷◌, ◌&&◌, MatchOption,
 ghost use Rattle.ssa_members.specs.Members.{IsRising};
 ghost use Rattle.std.specs.List.{list_all, list_any};
 ghost use Rattle.ssa_json.specs.View.{view, members_view};
-ghost use Rattle.ssa_model.specs.definitions.Commands.{text_in};
-ghost use Rattle.ssa_model.specs.definitions.GivenEntries.{are_entry_members, entry_texts, is_entry, is_entry_member, operation_of};
+ghost use Rattle.ssa_model.specs.definitions.Values.{text_in, has_member};
+ghost use Rattle.ssa_model.specs.definitions.GivenEntries.{are_entry_members, entry_texts, is_entry, is_entry_member};
 ghost use Rattle.ssa_model.specs.definitions.Json.{member_of, same_text};
-ghost use Rattle.ssa_model.specs.definitions.Schema.{has_member};
+ghost use Rattle.ssa_model.specs.definitions.Keys.{operation_of};
 ghost use Rattle.ssa_merge.specs.EntryReading.{IsNoEntry, Says, SaysIn};
 ghost use Rattle.ssa_merge.specs.Managers.{operation_view};
 

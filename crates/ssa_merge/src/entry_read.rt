@@ -2,8 +2,9 @@
 ghost use Rattle.std.specs.Prelude.{◌≡◌, [], IfOk};
 ghost use Rattle.ssa_json.specs.Readings.{readings};
 ghost use Rattle.ssa_json.specs.View.{view};
-ghost use Rattle.ssa_model.specs.definitions.Entries.{entry_json, text_json};
+ghost use Rattle.ssa_model.specs.definitions.Entries.{entry_json};
 ghost use Rattle.ssa_model.specs.definitions.GivenEntries.{owned_fault, value_entry};
+ghost use Rattle.ssa_model.specs.definitions.Values.{text_json};
 ghost use Rattle.ssa_merge.specs.EntryReading.{TellsEntry, TellsOwned, owning};
 ghost use Rattle.ssa_merge.specs.Managers.{entry_view, key_view, table_view};
 

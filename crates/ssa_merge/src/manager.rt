@@ -1,7 +1,6 @@
 //! Managers of fields: a name, and the operation and the part of the object by which it came to own them.
 ghost use Rattle.std.specs.Prelude.{◌≡◌, IfOk};
-ghost use Rattle.ssa_model.specs.definitions.Entries.{operation_text};
-ghost use Rattle.ssa_model.specs.definitions.Table.{same_operation, same_manager};
+ghost use Rattle.ssa_model.specs.definitions.Keys.{operation_text, same_operation, same_manager};
 ghost use Rattle.ssa_merge.specs.Managers.{operation_view, key_view};
 
 use ssa_members::Name;

@@ -1,7 +1,7 @@
 //! Whether the managers that two tables share stand in one order.
 ghost use Rattle.std.specs.Prelude.{◌≡◌, ◌≤◌, true, length};
 ghost use Rattle.std.specs.Cmp.Lexicographic.{pointwise};
-ghost use Rattle.ssa_model.specs.definitions.Table.{same_manager};
+ghost use Rattle.ssa_model.specs.definitions.Keys.{same_manager};
 ghost use Rattle.ssa_model.specs.definitions.Valid.{shared_managers};
 ghost use Rattle.ssa_model.specs.definitions.BenchOfStates.{keeps_order};
 ghost use Rattle.ssa_merge.specs.Managers.{table_view};

@@ -4,7 +4,7 @@ ghost use Rattle.ssa_model.specs.definitions.Fitting.{IsBodyOf};
 ghost use Rattle.ssa_model.specs.definitions.History.{is_manager_name};
 ghost use Rattle.ssa_model.specs.definitions.Kind.{Kind};
 ghost use Rattle.ssa_model.specs.definitions.Operations.{apply, update, strip};
-ghost use Rattle.ssa_model.specs.definitions.Table.{applies, key_of, updates};
+ghost use Rattle.ssa_model.specs.definitions.Keys.{applies, key_of, updates};
 ghost use Rattle.ssa_model.specs.definitions.Valid.{AllEntries, IsValidState, OwnsOwnable};
 ghost use Rattle.ssa_model.specs.laws.KeepsValid.{StaysOutside};
 ghost use Rattle.ssa_path.specs.Subresources.{part_view};

@@ -2,8 +2,9 @@
 ghost use Rattle.std.specs.Prelude.{◌≡◌, ◌∷◌, [], true, false, filter, map, length, unwrap_or, IfOk, IfNone, IfSome, OnOk};
 ghost use Rattle.ssa_model.specs.definitions.History.{is_manager_name};
 ghost use Rattle.ssa_model.specs.definitions.PathMap.{empty, is_empty, minus};
-ghost use Rattle.ssa_model.specs.definitions.Table.{is_in_table, owned_by, reseated, same_manager, seat};
+ghost use Rattle.ssa_model.specs.definitions.Table.{is_in_table, owned_by, reseated, seat};
 ghost use Rattle.ssa_model.specs.definitions.Valid.{has_distinct_keys};
+ghost use Rattle.ssa_model.specs.definitions.Keys.{same_manager};
 ghost use Rattle.ssa_merge.specs.Managers.{key_view, entry_view, table_view};
 ghost use Rattle.ssa_merge.specs.TableChanges.{changed_entries, changed_entry, IsSeated, LeadsTo};
 ghost use Rattle.ssa_merge.specs.Tables.{acted, less, owns};

@@ -5,7 +5,7 @@ use Rattle.ssa_model.specs.definitions.Limits.{most_places, most_managers}
 use Rattle.ssa_model.specs.definitions.Json.{Text}
 use Rattle.ssa_model.specs.definitions.PathMap.{size}
 use Rattle.ssa_model.specs.definitions.Body.{Body, modified}
-use Rattle.ssa_model.specs.definitions.Table.{ManagerKey}
+use Rattle.ssa_model.specs.definitions.Keys.{ManagerKey}
 use Rattle.ssa_model.specs.definitions.Parts.{part_of, spliced}
 use Rattle.ssa_model.specs.definitions.Operations.{State, apply_target, update_target, pruned, clashes, is_none, if_seated, apply, update, conflict, too_many_paths, too_many_managers}
 

@@ -8,10 +8,11 @@ use Rattle.ssa_model.specs.definitions.Json.{same_text}
 use Rattle.ssa_model.specs.definitions.Path.{Path}
 use Rattle.ssa_model.specs.definitions.PathMap.{get, has, paths, size, map_of}
 use Rattle.ssa_model.specs.definitions.Body.{Content, Body, order_at, is_other_leaf, modified}
-use Rattle.ssa_model.specs.definitions.Table.{ManagerKey, Entry, Table, is_in_table, entry_of}
+use Rattle.ssa_model.specs.definitions.Table.{Entry, Table, is_in_table, entry_of}
 use Rattle.ssa_model.specs.definitions.Valid.{has_distinct_keys, KeepsOrder, AllEntries}
 use Rattle.ssa_model.specs.definitions.Record.{is_reordered}
 use Rattle.ssa_model.specs.definitions.Facts.{one_if, reordered, entry_facts}
+use Rattle.ssa_model.specs.definitions.Keys.{ManagerKey}
 use Rattle.ssa_model.specs.laws.RecordSizes.{FactsBothWays}
 use Rattle.ssa_model.proofs.PathMaps.{same_map, same_sets, has-set_of, has-paths, get-over_paths}
 use Rattle.ssa_model.proofs.Tables.{same_text-true}

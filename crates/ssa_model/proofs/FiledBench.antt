@@ -7,7 +7,7 @@ use Rattle.ssa_model.specs.definitions.Limits.{most_places, most_managers, most_
 use Rattle.ssa_model.specs.definitions.Json.{Text, Json, object, no_members, compact, same_text}
 use Rattle.ssa_model.specs.definitions.PathMap.{size}
 use Rattle.ssa_model.specs.definitions.Body.{Body, modified}
-use Rattle.ssa_model.specs.definitions.Table.{ManagerKey}
+use Rattle.ssa_model.specs.definitions.Keys.{ManagerKey}
 use Rattle.ssa_model.specs.definitions.Objects.{body_value}
 use Rattle.ssa_model.specs.definitions.Parts.{part_of}
 use Rattle.ssa_model.specs.definitions.Operations.{State, clashes, conflict, too_many_paths, too_many_managers, is_none, if_seated, apply_target, apply}

@@ -4,10 +4,11 @@ use Rattle.std.proofs.Math.Bool.{not-not, and-true}
 use Rattle.std.proofs.lemmas.Option.{none-some, same_Some}
 use Rattle.std.specs.List.{cons_option}
 use Rattle.std.specs.Prelude.{if◌then◌else◌, filter, filter_map, option_map, ◌==◌}
-use Rattle.ssa_model.specs.definitions.Table.{ManagerKey, Entry, Table, same_manager, is_in_table, entry_of}
+use Rattle.ssa_model.specs.definitions.Table.{Entry, Table, is_in_table, entry_of}
 use Rattle.ssa_model.specs.definitions.Valid.{AllEntries, has_distinct_keys, KeepsOrder}
 use Rattle.ssa_model.specs.definitions.Record.{Change, TableRecord, placed, gone_from}
 use Rattle.ssa_model.specs.definitions.Carry.{placed_at, filled, end_of, is_key_among, change_for, changed_entry, staying, carry_table}
+use Rattle.ssa_model.specs.definitions.Keys.{ManagerKey, same_manager}
 use Rattle.ssa_model.specs.laws.FittingRecords.{staying_managers}
 use Rattle.ssa_model.proofs.Tables.{KeepsKeys, same_manager-true, all-map, all-filter}
 use Rattle.ssa_model.proofs.SharedManagers.{managers, Each, each-more, each-in, filter-alike}

@@ -10,7 +10,7 @@ use Rattle.ssa_model.specs.definitions.Objects.{body_value}
 use Rattle.ssa_model.specs.definitions.Operations.{State, apply}
 use Rattle.ssa_model.specs.definitions.Valid.{IsRooted, IsValidState, KeepsOrder}
 use Rattle.ssa_model.specs.definitions.Record.{body_record, record_of}
-use Rattle.ssa_model.specs.definitions.Table.{ManagerKey}
+use Rattle.ssa_model.specs.definitions.Keys.{ManagerKey}
 use Rattle.ssa_model.specs.definitions.Fitting.{Place, of_kind, content_fits, IsBodyOf}
 use Rattle.ssa_model.specs.examples.Sample.{sample_kind, replicas_path}
 use Rattle.ssa_model.specs.examples.Rows.{new_bench, with_replicas, with_ports, abc}

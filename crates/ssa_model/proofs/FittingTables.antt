@@ -10,12 +10,13 @@ use Rattle.ssa_model.specs.definitions.Json.{Text, same_text}
 use Rattle.ssa_model.specs.definitions.Path.{Path, path_cmp, same_path}
 use Rattle.ssa_model.specs.definitions.PathMap.{PathSet, has, paths, has_at_or_above, is_empty, minus, same_set}
 use Rattle.ssa_model.specs.definitions.Body.{Body, is_ownable}
-use Rattle.ssa_model.specs.definitions.Table.{ManagerKey, Entry, Table, same_manager, is_in_table, entry_of}
+use Rattle.ssa_model.specs.definitions.Table.{Entry, Table, is_in_table, entry_of}
 use Rattle.ssa_model.specs.definitions.History.{is_manager_name}
 use Rattle.ssa_model.specs.definitions.Valid.{AllEntries, OwnsOwnable, IsTable}
 use Rattle.ssa_model.specs.definitions.Record.{Change, TableRecord, new_moment, is_unchanged, change_to, change_of, changes, gone_from}
 use Rattle.ssa_model.specs.definitions.Carry.{placed_at, end_of, is_key_among, change_for, changed_entry, staying, carry_table}
 use Rattle.ssa_model.specs.definitions.Takes.{TableTakes}
+use Rattle.ssa_model.specs.definitions.Keys.{ManagerKey, same_manager}
 use Rattle.ssa_model.specs.laws.FittingRecords.{tells_something, ChangeFits, loses, EntryFits, HereFits, TableFits, KeepsUncut, FittingTableLeads}
 use Rattle.ssa_model.proofs.PathMaps.{has-union, has-minus, same_sets, same_set-true, same_path-itself}
 use Rattle.ssa_model.proofs.Tables.{either, text-itself, same_manager-true, ownable-has, ownable_there}

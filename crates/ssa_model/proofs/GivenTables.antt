@@ -3,14 +3,14 @@ use Rattle.std.proofs.Common.{◌≡◌, ◌≤◌, List, [], ◌∷◌, ◌++�
 use Rattle.std.proofs.lemmas.Bool.Decides.{nat_tests}
 use Rattle.std.specs.Prelude.{Option, Some, None, Result, Ok, Err, nat_le, if◌then◌else◌}
 use Rattle.ssa_model.specs.definitions.Limits.{most_managers}
-use Rattle.ssa_model.specs.definitions.Json.{Text, Json, scalar, list, object, Items, no_items, item, Members}
+use Rattle.ssa_model.specs.definitions.Json.{Text, Json, Items, no_items, item}
 use Rattle.ssa_model.specs.definitions.Path.{Path}
 use Rattle.ssa_model.specs.definitions.PathMap.{is_empty, paths}
 use Rattle.ssa_model.specs.definitions.Body.{Body, is_ownable}
 use Rattle.ssa_model.specs.definitions.Table.{Entry, Table, is_in_table}
 use Rattle.ssa_model.specs.definitions.Readings.{Readings}
 use Rattle.ssa_model.specs.definitions.ElementTexts.{ElementFault}
-use Rattle.ssa_model.specs.definitions.GivenEntries.{EntryFault, too_many_managers, bad_entry, manager_name, other_version, bad_moment, of_fields, empty_entry, absent_path, duplicate_manager, is_entry, not_ownable, said_entry, owned_fault, entry_fault, value_entry, next_entry, table_behind}
+use Rattle.ssa_model.specs.definitions.GivenEntries.{EntryFault, too_many_managers, bad_entry, manager_name, other_version, bad_moment, of_fields, empty_entry, absent_path, duplicate_manager, is_entry, not_ownable, said_entry, owned_fault, entry_fault, next_entry, table_behind}
 use Rattle.ssa_model.specs.definitions.History.{is_manager_name}
 use Rattle.ssa_model.specs.definitions.Valid.{OwnsOwnable, AllEntries, IsTable}
 use Rattle.ssa_model.proofs.Lists.{is_one_of-filter}
@@ -71,22 +71,15 @@ module _ (readings : Readings) (body : Body) (version : Text) where
     moment : readings.moment e.moment ≡ true
     faultless : owned_fault body before e ≡ None
 
-  next-members : (before : Table) (ms : Members) (e : Entry) → nat_le most_managers (length before) ≡ false
-      → ◌≡◌ {A = Result Entry EntryFault} (if not (is_entry ms) then Err
-      bad_entry else (elim (entry_fault readings body version before ms) [ Some f ↦ Err f | None ↦ Ok (said_entry readings ms) ])) (Ok e)
-      → IsNext before e
-  next-members before ms e room one =
-      let own = said (is_entry ms) (entry_fault readings body version before ms) (said_entry readings ms) e one in
-      let none = no-fault-before _ _ _ _ _ own.0 in
-      subst (IsNext before) own.1 (record { room = room; named = none.0; moment = none.1; faultless = none.2 })
-
   next-value : (full : Bool) (before : Table) (v : Json) (e : Entry) → nat_le most_managers (length before) ≡ full
-      → ◌≡◌ {A = Result Entry EntryFault} (if full then Err too_many_managers else value_entry readings body version before v) (Ok e)
+      → ◌≡◌ {A = Result Entry EntryFault} (if full then Err too_many_managers else (if not (is_entry v) then Err
+      bad_entry else (elim (entry_fault readings body version before v) [ Some f ↦ Err f | None ↦ Ok (said_entry readings v) ]))) (Ok e)
       → IsNext before e
   next-value true before v e room one = cc
-  next-value false before (object ms) e room one = next-members before ms e room one
-  next-value false before (list vs) e room one = cc
-  next-value false before (scalar s) e room one = cc
+  next-value false before v e room one =
+      let own = said (is_entry v) (entry_fault readings body version before v) (said_entry readings v) e one in
+      let none = no-fault-before _ _ _ _ _ own.0 in
+      subst (IsNext before) own.1 (record { room = room; named = none.0; moment = none.1; faultless = none.2 })
 
   -- what an entry more keeps holds of the table that the items lead to
   given : (P : Table → Type 0) → ((before : Table) (e : Entry) → IsNext before e → P before → P (before ++ e ∷ []))

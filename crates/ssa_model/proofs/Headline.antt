@@ -8,7 +8,7 @@ use Rattle.ssa_model.specs.definitions.Kind.{FaultAt, faults}
 use Rattle.ssa_model.specs.definitions.Objects.{body_value}
 use Rattle.ssa_model.specs.definitions.Body.{Body, flat, modified}
 use Rattle.ssa_model.specs.definitions.PathMap.{size}
-use Rattle.ssa_model.specs.definitions.Table.{applies, key_of}
+use Rattle.ssa_model.specs.definitions.Keys.{applies, key_of}
 use Rattle.ssa_model.specs.definitions.Parts.{Actor, part_of}
 use Rattle.ssa_model.specs.definitions.Operations as operations
 use Rattle.ssa_model.specs.definitions.Operations.{Clash, State, Refusal, clashes, conflict, too_many_paths, pruned, if_seated, is_none}

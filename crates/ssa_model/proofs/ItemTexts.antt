@@ -3,7 +3,7 @@ use Rattle.std.proofs.Common.{◌≡◌, ℕ, ◌+◌, ◌<◌, ◌≤◌, List,
 use Rattle.std.specs.Prelude.{Result, Ok, Err, OnOk, is_ok, if◌then◌else◌}
 use Rattle.std.proofs.lemmas.List.{drop_more, drop_all}
 use Rattle.ssa_model.specs.definitions.Json.{Text, Json, item, compact_items}
-use Rattle.ssa_model.specs.definitions.Replies.{items_json}
+use Rattle.ssa_model.specs.definitions.Values.{items_json}
 
 module _ {X : Type 0} (f : X → Json) where
   -- the text of the items from the i-th on, with the closing bracket

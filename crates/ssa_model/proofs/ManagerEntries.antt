@@ -4,9 +4,10 @@ use Rattle.std.proofs.Math.Bool.{and-false}
 use Rattle.std.specs.Cmp.{first_so, second_so}
 use Rattle.std.specs.List.{AllByRecursion}
 use Rattle.std.specs.Prelude.{filter, if◌then◌else◌}
-use Rattle.ssa_model.specs.definitions.Table.{ManagerKey, Entry, Table, same_manager, is_in_table, entry_of}
+use Rattle.ssa_model.specs.definitions.Table.{Entry, Table, is_in_table, entry_of}
 use Rattle.ssa_model.specs.definitions.Valid.{AllEntries, has_distinct_keys}
 use Rattle.ssa_model.specs.definitions.Carry.{is_key_among}
+use Rattle.ssa_model.specs.definitions.Keys.{ManagerKey, same_manager}
 use Rattle.ssa_model.proofs.Tables.{manager-itself, same_manager-true, true_or}
 use Rattle.ssa_model.proofs.SharedManagers.{managers, Each, each-apart}
 use Rattle.ssa_model.proofs.Tests.{by_test}

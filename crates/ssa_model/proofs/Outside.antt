@@ -8,9 +8,10 @@ use Rattle.ssa_model.specs.definitions.PathMap.{minus, is_empty, get, has, paths
 use Rattle.ssa_model.specs.definitions.Body.{Content, leaf, atom, record_branch, dict_branch, list_branch, Body, restricted_content, modified, added, removed, is_leaf, is_dict, is_bare, is_point, points, over, over_content, strictly_under, is_ownable, order_at}
 use Rattle.ssa_model.specs.definitions.Kind.{Kind, is_among}
 use Rattle.ssa_model.specs.definitions.Parts.{is_path_of, part_of, spliced}
-use Rattle.ssa_model.specs.definitions.Table.{ManagerKey, owned_by, owned_by_others}
+use Rattle.ssa_model.specs.definitions.Table.{owned_by, owned_by_others}
 use Rattle.ssa_model.specs.definitions.Operations.{State, dropped, kept, pruned, owned_outside}
 use Rattle.ssa_model.specs.definitions.Valid.{AllEntries, OwnsOwnable, IsValidState}
+use Rattle.ssa_model.specs.definitions.Keys.{ManagerKey}
 use Rattle.ssa_model.proofs.PathMaps.{get-over, get-restricted, has-minus, has-set_of, has-union, has-points, has-paths, is_one_of, same_path-true}
 use Rattle.ssa_model.proofs.Tables.{TableOf, seat_keeps, seat-ownable, point-ownable, leaf-ownable, ownable-has, ownable_there, kept-stays, points-kept, others-kept, left_there, modified-leaf, added-point, true_or, either, element-itself, has-over, has-restricted, spared, under-itself, owned_by-ownable}
 use Rattle.ssa_model.proofs.Fitting.{same_element-true}

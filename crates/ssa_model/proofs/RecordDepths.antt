@@ -10,17 +10,18 @@ use Rattle.ssa_model.specs.definitions.PathMap.{get, has, paths, below}
 use Rattle.ssa_model.specs.definitions.Kind.{Kind, atomic_of, shape_faults}
 use Rattle.ssa_model.specs.definitions.Body.{Content, leaf, atom, record_branch, dict_branch, list_branch, Body, is_leaf}
 use Rattle.ssa_model.specs.definitions.Parts.{Subresource, main, status}
-use Rattle.ssa_model.specs.definitions.Table.{ManagerKey, Entry, Table, is_in_table}
+use Rattle.ssa_model.specs.definitions.Table.{Entry, Table, is_in_table}
 use Rattle.ssa_model.specs.definitions.Operations.{State}
 use Rattle.ssa_model.specs.definitions.Objects.{content_value, shown, shown_fields}
-use Rattle.ssa_model.specs.definitions.Entries.{text_json}
+use Rattle.ssa_model.specs.definitions.Keys.{ManagerKey, key_values}
 use Rattle.ssa_model.specs.definitions.FieldsV1.{fields_json}
-use Rattle.ssa_model.specs.definitions.Replies.{items_json, list_json, path_json}
+use Rattle.ssa_model.specs.definitions.Replies.{path_json}
 use Rattle.ssa_model.specs.definitions.Fitting.{Place, of_kind, item_of, value_of, place_at, content_fits, IsBodyOf}
 use Rattle.ssa_model.specs.definitions.Lawful.{is_lawful}
 use Rattle.ssa_model.specs.definitions.Valid.{AllEntries, OwnsOwnable, IsValidState}
 use Rattle.ssa_model.specs.definitions.Record.{Change, Part, is_top, part_at, new_leaf, change_to, cuts, puts, new_leaves, new_orders, changes, gone_from, new_in, record_of}
-use Rattle.ssa_model.specs.definitions.RecordText.{value_at_place, part_value, place_items, put_json, change_json, gone_json, here_json, leaf_json, order_json, record_json}
+use Rattle.ssa_model.specs.definitions.RecordText.{value_at_place, part_value, place_items, put_json, change_json, here_json, leaf_json, order_json, record_json}
+use Rattle.ssa_model.specs.definitions.Values.{text_json, items_json, list_json}
 use Rattle.ssa_model.proofs.Faults.{none-found}
 use Rattle.ssa_model.proofs.Fitting.{some_there}
 use Rattle.ssa_model.proofs.KindLevels.{levels, place_levels, place-levels, shape-depth, fits-depth, fields-depth}
@@ -79,12 +80,12 @@ module _ (most : ℕ) where
       (all-changes IsShortEntry IsShortChange change-short u b t a)) in
       omega arith
 
-  key-depth : (k : ManagerKey) → depth (gone_json k) ≤ 1
-  key-depth k = elim k.part as (λ s. depth (gone_json (record { name = k.name; operation = k.operation; part = s })) ≤ 1) [ main ↦ omega arith | status ↦ omega arith ]
+  key-depth : (k : ManagerKey) → depth (key_values k) ≤ 1
+  key-depth k = elim k.part as (λ s. depth (key_values (record { name = k.name; operation = k.operation; part = s })) ≤ 1) [ main ↦ omega arith | status ↦ omega arith ]
 
-  gone-depth : (t u : Table) → depth (list_json gone_json (gone_from t u)) ≤ 2
+  gone-depth : (t u : Table) → depth (list_json key_values (gone_from t u)) ≤ 2
   gone-depth t u =
-      let inside = items-within gone_json 1 (gone_from t u) (each (λ k. depth (gone_json k) ≤ 1) key-depth (gone_from t u)) in
+      let inside = items-within key_values 1 (gone_from t u) (each (λ k. depth (key_values k) ≤ 1) key-depth (gone_from t u)) in
       omega arith
 
   entry-depth : (version : Json) (x : ℕ × Entry) → depth version ≤ most → depth (fields_json x.1.owned) ≤ suc (suc most) → depth (here_json version x) ≤ most + 4

@@ -8,9 +8,10 @@ use Rattle.std.specs.FinMap.Entries.{find, is_sorted, is_some-find}
 use Rattle.ssa_model.specs.definitions.Path.{Path, path_cmp, same_path}
 use Rattle.ssa_model.specs.definitions.PathMap.{PathMap, PathSet, get, has, paths, map_of}
 use Rattle.ssa_model.specs.definitions.Body.{Content, is_leaf, is_other_leaf}
-use Rattle.ssa_model.specs.definitions.Table.{ManagerKey, Entry, Table, entry_of, same_manager}
+use Rattle.ssa_model.specs.definitions.Table.{Entry, Table, entry_of}
 use Rattle.ssa_model.specs.definitions.Valid.{AllEntries}
 use Rattle.ssa_model.specs.definitions.Record.{Change, new_leaf, is_unchanged, change_to, change_of, placed, changes}
+use Rattle.ssa_model.specs.definitions.Keys.{ManagerKey, same_manager}
 use Rattle.ssa_model.proofs.Lists.{keys}
 use Rattle.ssa_model.proofs.PathMaps.{is_one_of, get-over_paths, has-paths, same_path-true, same_path-itself}
 use Rattle.ssa_model.proofs.ShownItems.{each-among}

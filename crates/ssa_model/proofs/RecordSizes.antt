@@ -9,10 +9,11 @@ use Rattle.ssa_model.specs.definitions.Path.{Element, Path, same_element, same_p
 use Rattle.ssa_model.specs.definitions.PathMap.{from_entries, get, has, paths, size, below}
 use Rattle.ssa_model.specs.definitions.Kind.{Kind}
 use Rattle.ssa_model.specs.definitions.Body.{Content, Body, order_at, is_other_leaf, modified, removed}
-use Rattle.ssa_model.specs.definitions.Table.{ManagerKey, Entry, Table, is_in_table, entry_of}
+use Rattle.ssa_model.specs.definitions.Table.{Entry, Table, is_in_table, entry_of}
 use Rattle.ssa_model.specs.definitions.Fitting.{IsBodyOf}
 use Rattle.ssa_model.specs.definitions.Record.{placed, Change, Part, is_top, part_at, cuts, puts, new_leaf, new_leaves, is_reordered, new_order, new_orders, new_moment, is_unchanged, change_to, change_of, changes, new_in}
 use Rattle.ssa_model.specs.definitions.Facts.{one_if, change_size, reordered, entry_facts}
+use Rattle.ssa_model.specs.definitions.Keys.{ManagerKey}
 use Rattle.ssa_model.specs.laws.RecordSizes.{BodyBound, TableBound, SizeBound}
 use Rattle.ssa_model.proofs.Fitting.{same_element-true}
 use Rattle.ssa_model.proofs.PathMaps.{is_one_of, same_path-itself}

@@ -5,11 +5,12 @@ use Rattle.std.specs.Prelude.{is_some, if◌then◌else◌, filter, filter_map, 
 use Rattle.ssa_model.specs.definitions.Json.{Text, same_text}
 use Rattle.ssa_model.specs.definitions.PathMap.{get, has, paths, map_of, listed, minus, same_set}
 use Rattle.ssa_model.specs.definitions.Body.{Content, Body, is_other_leaf, order_at}
-use Rattle.ssa_model.specs.definitions.Table.{ManagerKey, Entry, Table, is_in_table, entry_of}
+use Rattle.ssa_model.specs.definitions.Table.{Entry, Table, is_in_table, entry_of}
 use Rattle.ssa_model.specs.definitions.Valid.{KeepsOrder, has_distinct_keys, AllEntries}
 use Rattle.ssa_model.specs.definitions.Record.{placed, Change, is_top, part_at, cuts, puts, new_leaf, new_leaves, is_reordered, new_order, new_orders, new_moment, is_unchanged, change_to, change_of, changes, gone_from, new_in}
 use Rattle.ssa_model.specs.definitions.Carry.{is_key_among}
 use Rattle.ssa_model.specs.definitions.Takes.{moment_or, turned_change}
+use Rattle.ssa_model.specs.definitions.Keys.{ManagerKey}
 use Rattle.ssa_model.specs.laws.RecordTurns.{BodyTurns, TableTurns, RecordTurns}
 use Rattle.ssa_model.proofs.PathMaps.{has-paths, same_map, same_sets, same_set-true, get-over_paths}
 use Rattle.ssa_model.proofs.Tables.{same_text-true}

@@ -8,9 +8,10 @@ use Rattle.ssa_model.specs.definitions.Json.{Json, list, no_items, compact, same
 use Rattle.ssa_model.specs.definitions.BenchText.{Format, states, records, parts, depths, whole_object}
 use Rattle.ssa_model.specs.definitions.BenchFile.{IsReadBack, IsStep, IsSpelled}
 use Rattle.ssa_model.specs.definitions.Operations.{State}
-use Rattle.ssa_model.specs.definitions.RecordReading.{member_in, HasReadPaths}
+use Rattle.ssa_model.specs.definitions.RecordReading.{HasReadPaths}
 use Rattle.ssa_model.specs.definitions.Valid.{AllEntries, IsValidState}
 use Rattle.ssa_model.specs.definitions.RecordedBench.{record_head, record_line, recorded_values, recorded_text, HasReadStep}
+use Rattle.ssa_model.specs.definitions.Values.{member_in}
 use Rattle.ssa_model.specs.laws.RecordedMoves.{IsReadBackState}
 use Rattle.ssa_model.specs.examples.Sample.{sample_kind}
 use Rattle.ssa_model.specs.examples.FileRows.{readings_of, applied_step, filed}

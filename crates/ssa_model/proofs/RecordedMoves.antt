@@ -9,13 +9,12 @@ use Rattle.std.specs.Ordering.{is_lt, nat_cmp}
 use Rattle.std.specs.Cmp.Lexicographic.{slice_cmp}
 use Rattle.ssa_model.specs.definitions.Json.{Text, Json, scalar, list, object, Members, no_members, member, member_at, compact, same_text}
 use Rattle.ssa_model.specs.definitions.Readings.{Readings}
-use Rattle.ssa_model.specs.definitions.Commands.{value_in}
+use Rattle.ssa_model.specs.definitions.Values.{value_in, has_member, MemberShape, must_have, are_members_of}
 use Rattle.ssa_model.specs.definitions.Entries.{version_in}
 use Rattle.ssa_model.specs.definitions.MemberNames.{has_rising_names, is_below, members_rise}
 use Rattle.ssa_model.specs.definitions.Objects.{Identity}
 use Rattle.ssa_model.specs.definitions.Operations.{State}
 use Rattle.ssa_model.specs.definitions.Replies.{label_json}
-use Rattle.ssa_model.specs.definitions.Schema.{has_member}
 use Rattle.ssa_model.specs.definitions.Table.{Table}
 use Rattle.ssa_model.specs.definitions.History.{Label, Bench}
 use Rattle.ssa_model.specs.definitions.Answers.{Fault, file_state}
@@ -25,7 +24,7 @@ use Rattle.ssa_model.specs.definitions.BenchFile.{IsReadBack, IsLabel}
 use Rattle.ssa_model.specs.definitions.Record.{Record, record_of}
 use Rattle.ssa_model.specs.definitions.Carry.{carry}
 use Rattle.ssa_model.specs.definitions.RecordText.{record_json}
-use Rattle.ssa_model.specs.definitions.RecordReading.{MemberShape, must_have, are_members_of, is_record_shape, record_in, has_read_paths, IsReadState}
+use Rattle.ssa_model.specs.definitions.RecordReading.{is_record_shape, record_in, has_read_paths, IsReadState}
 use Rattle.ssa_model.specs.definitions.RecordedBench.{record_line}
 use Rattle.ssa_model.specs.definitions.BenchOfStates.{given_if, is_written_as, said_label, is_label, label_in, keeps_order}
 use Rattle.ssa_model.specs.definitions.BenchOfRecords.{led_state, is_move, move_to, move_in}

@@ -10,7 +10,7 @@ use Rattle.std.specs.Prelude.{◌==◌, if◌then◌else◌, codes, nat_le, Resu
 use Rattle.ssa_model.specs.definitions.Limits.{most_past, most_bench_bytes}
 use Rattle.ssa_model.specs.definitions.Json.{Json, member_at, compact}
 use Rattle.ssa_model.specs.definitions.Readings.{Readings}
-use Rattle.ssa_model.specs.definitions.Commands.{value_in}
+use Rattle.ssa_model.specs.definitions.Values.{value_in}
 use Rattle.ssa_model.specs.definitions.Schema.{Schema, read_schema}
 use Rattle.ssa_model.specs.definitions.Operations.{State}
 use Rattle.ssa_model.specs.definitions.History.{Label, Step, Bench, last_state, with_timeline}

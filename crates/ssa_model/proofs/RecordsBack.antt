@@ -8,23 +8,23 @@ use Rattle.ssa_model.specs.definitions.Json.{Text, same_text, Json, list, item, 
 use Rattle.ssa_model.specs.definitions.Path.{Element, Path, element_text, same_element, is_item_element}
 use Rattle.ssa_model.specs.definitions.PathMap.{PathMap, PathSet, from_entries, get, has, paths, listed, below}
 use Rattle.ssa_model.specs.definitions.Kind.{Kind, scalar_kind, atomic_of}
-use Rattle.ssa_model.specs.definitions.Schema.{texts_of, is_text}
+use Rattle.ssa_model.specs.definitions.Values.{texts_of, is_text, text_in, text_json, items_json, Test, all_items, are_members_of, has_members, is_anything, has_items, items_in, item_at, member_values}
 use Rattle.ssa_model.specs.definitions.Body.{Content, leaf, atom, record_branch, dict_branch, list_branch, Body, order_at, is_leaf}
 use Rattle.ssa_model.specs.definitions.Parts.{Subresource, main, status}
-use Rattle.ssa_model.specs.definitions.Commands.{text_in, is_subresource, subresource_in}
-use Rattle.ssa_model.specs.definitions.Table.{Operation, applies, updates, ManagerKey, Entry, Table, is_in_table}
+use Rattle.ssa_model.specs.definitions.Keys.{is_subresource, subresource_in, Operation, applies, updates, ManagerKey, operation_text, part_members, key_values, is_operation, is_key, key_in}
+use Rattle.ssa_model.specs.definitions.Table.{Entry, Table, is_in_table}
 use Rattle.ssa_model.specs.definitions.Operations.{State}
 use Rattle.ssa_model.specs.definitions.Objects.{content_value}
 use Rattle.ssa_model.specs.definitions.Readings.{Readings}
 use Rattle.ssa_model.specs.definitions.ElementTexts.{ElementFault, element_of, next_element, path_of}
 use Rattle.ssa_model.specs.definitions.FieldsV1.{fields_json}
-use Rattle.ssa_model.specs.definitions.Entries.{operation_text, text_json, part_members, entry_json}
-use Rattle.ssa_model.specs.definitions.Replies.{items_json, path_json}
+use Rattle.ssa_model.specs.definitions.Entries.{entry_json}
+use Rattle.ssa_model.specs.definitions.Replies.{path_json}
 use Rattle.ssa_model.specs.definitions.Fitting.{Place, of_kind, value_of, place_at, content_fits, IsBodyOf}
 use Rattle.ssa_model.specs.definitions.Valid.{AllEntries, OwnsOwnable, IsValidState}
 use Rattle.ssa_model.specs.definitions.Record.{Change, Part, is_top, part_at, new_leaf, is_reordered, new_order, change_to, cuts, puts, new_leaves, new_orders, changes, gone_from, new_in, record_of}
-use Rattle.ssa_model.specs.definitions.RecordText.{place_items, part_items, time_members, part_value, put_json, change_json, gone_json, here_json, leaf_json, order_json, record_json}
-use Rattle.ssa_model.specs.definitions.RecordReading.{Test, all_items, are_members_of, has_members, is_anything, is_operation, is_key, has_items, items_in, item_at, key_in, content_in, part_in, place_given, is_read_path, is_path, is_fields, change_shape, entry_shape, here_shape, is_put, path_in, change_in, here_in, order_in, leaf_in, put_in, IsReadPath, HasReadSet, HasReadPaths, is_record_shape, record_in, IsReadState}
+use Rattle.ssa_model.specs.definitions.RecordText.{place_items, time_members, part_value, put_json, change_json, here_json, leaf_json, order_json, record_json}
+use Rattle.ssa_model.specs.definitions.RecordReading.{content_in, part_in, place_given, is_read_path, is_path, is_fields, change_shape, here_entry, here_shape, is_put, path_in, change_in, here_in, order_in, leaf_in, put_in, IsReadPath, HasReadSet, HasReadPaths, is_record_shape, record_in, IsReadState}
 use Rattle.ssa_model.specs.laws.RecordReading.{RecordTextsHaveShape, RecordTextsAreRead}
 use Rattle.ssa_model.proofs.BodyLeads.{get-cuts}
 use Rattle.ssa_model.proofs.Fitting.{some_there}
@@ -85,19 +85,19 @@ operation-told : (o : Operation) → is_operation (text_json (operation_text o))
 operation-told applies = refl
 operation-told updates = refl
 
-key-back : (k : ManagerKey) → key_in (gone_json k) ≡ k
+key-back : (k : ManagerKey) → key_in (key_values k) ≡ k
 key-back k = λ i. record { name = k.name; operation = operation-back k.operation i; part = part-given k.part i }
   where
-    part-given : (s : Subresource) → subresource_in (item_at 2 (list (item (text_json k.name) (item (text_json (operation_text k.operation)) (part_items s))))) ≡ s
+    part-given : (s : Subresource) → subresource_in (item_at 2 (list (item (text_json k.name) (item (text_json (operation_text k.operation)) (member_values (part_members s no_members)))))) ≡ s
     part-given main = refl
     part-given status = refl
 
-key-shaped : (k : ManagerKey) → is_key (gone_json k) ≡ true
+key-shaped : (k : ManagerKey) → is_key (key_values k) ≡ true
 key-shaped k = by k.part
   where
-    by : (s : Subresource) → is_key (list (item (text_json k.name) (item (text_json (operation_text k.operation)) (part_items s)))) ≡ true
+    by : (s : Subresource) → is_key (list (item (text_json k.name) (item (text_json (operation_text k.operation)) (member_values (part_members s no_members))))) ≡ true
     by main = λ i. (operation-told k.operation i && true) || has_items (is_text ∷ is_operation ∷ is_subresource ∷ []) (list (item (text_json k.name) (item (text_json (operation_text k.operation)) no_items)))
-    by status = or_true (has_items (is_text ∷ is_operation ∷ []) (list (item (text_json k.name) (item (text_json (operation_text k.operation)) (part_items status))))) _
+    by status = or_true (has_items (is_text ∷ is_operation ∷ []) (list (item (text_json k.name) (item (text_json (operation_text k.operation)) (member_values (part_members status no_members)))))) _
         (λ i. operation-told k.operation i && true)
 
 time-back : (o : Option Text) → option_and_then as_text (member_of (codes "time") (time_members o)) ≡ o
@@ -226,8 +226,8 @@ module _ (readings : Readings) where
   here-shaped version x h =
       let owned = fields-shaped x.1.owned h.0 in
       let operation = operation-told x.1.manager.operation in
-      let inside : (s : Subresource) → has_members (entry_shape readings) (entry_json (text_json version) (with_part s)) ≡ true =
-      λ s. elim s as (λ s. has_members (entry_shape readings) (entry_json (text_json version) (with_part s)) ≡ true) [
+      let inside : (s : Subresource) → here_entry readings (entry_json (text_json version) (with_part s)) ≡ true =
+      λ s. elim s as (λ s. here_entry readings (entry_json (text_json version) (with_part s)) ≡ true) [
         | main ↦ λ i. ((owned i || false) && ((operation i || false) && ((h.1 i || false) && true))) && true
         | status ↦ λ i. ((owned i || false) && ((operation i || false) && ((h.1 i || false) && true))) && true
       ] in
@@ -396,7 +396,7 @@ module _ (readings : Readings) (version : Text) (kind : Kind) (v w : State) (r :
   record-shaped =
       let changed = each-shaped (has_members (change_shape readings)) change_json (change-shaped readings) (changes t u) all-changed in
       let cut = each-shaped (is_path readings) path_json (path-shaped readings) (paths (cuts b c)) all-cut in
-      let gone = items-shaped is_key gone_json (gone_from t u) (each (λ k. is_key (gone_json k) ≡ true) key-shaped (gone_from t u)) in
+      let gone = items-shaped is_key key_values (gone_from t u) (each (λ k. is_key (key_values k) ≡ true) key-shaped (gone_from t u)) in
       let here = each-shaped (has_members (here_shape readings)) (here_json (text_json version)) (here-shaped readings version) (new_in t u) all-here in
       let leaves =
       each-shaped (has_items (is_path readings ∷ is_anything ∷ [])) leaf_json (leaf-shaped readings kind b c r.reads.paths r.reads_after.paths r.after.fits)
@@ -413,7 +413,7 @@ module _ (readings : Readings) (version : Text) (kind : Kind) (v w : State) (r :
   record-read lawful =
       let changed = each-back (change_in readings) change_json (change-back readings) (changes t u) all-changed in
       let cut = ap listed (each-back (λ j. path_in readings (Some j)) path_json (path-back readings) (paths (cuts b c)) all-cut) ∙ set-again (cuts b c) in
-      let gone = items-back key_in gone_json (gone_from t u) (each (λ k. key_in (gone_json k) ≡ k) key-back (gone_from t u)) in
+      let gone = items-back key_in key_values (gone_from t u) (each (λ k. key_in (key_values k) ≡ k) key-back (gone_from t u)) in
       let here = each-back (here_in readings) (here_json (text_json version)) (here-back readings version) (new_in t u) all-here in
       let leaves =
       ap from_entries (each-back (leaf_in readings kind) leaf_json (leaf-back readings kind b c r.reads.paths r.reads_after.paths r.after.fits)

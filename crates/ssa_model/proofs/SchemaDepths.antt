@@ -7,7 +7,8 @@ use Rattle.std.specs.Cmp.{first_so, second_so}
 use Rattle.ssa_model.specs.definitions.Json.{Text, Json, scalar, list, object, Members, no_members, member, member_of, is_object, depth, members_depth}
 use Rattle.ssa_model.specs.definitions.MemberNames.{has_distinct_names, are_distinct_members}
 use Rattle.ssa_model.specs.definitions.Objects.{is_missing}
-use Rattle.ssa_model.specs.definitions.Schema.{SchemaFault, schema_keyword, schema_shape, schema_keys, Standing, schema_keywords, schema_types, is_one_of_texts, has_member, if_given, is_text, is_text_among, names, is_key_list, is_scalar_type, is_object_type, is_array_type, list_type_is, standing_inside, fault_if, has_unknown_keyword, has_wrong_type, has_wrong_shape, has_wrong_keys, is_wrong_scalar, is_wrong_object, is_wrong_array, property_members, property_faults, optional_faults, child_faults, schema_faults}
+use Rattle.ssa_model.specs.definitions.Schema.{SchemaFault, schema_keyword, schema_shape, schema_keys, Standing, schema_keywords, schema_types, is_one_of_texts, if_given, is_text_among, names, is_key_list, is_scalar_type, is_object_type, is_array_type, list_type_is, standing_inside, fault_if, has_unknown_keyword, has_wrong_type, has_wrong_shape, has_wrong_keys, is_wrong_scalar, is_wrong_object, is_wrong_array, property_members, property_faults, optional_faults, child_faults, schema_faults}
+use Rattle.ssa_model.specs.definitions.Values.{has_member, is_text}
 use Rattle.ssa_model.proofs.DistinctNames.{member-distinct}
 use Rattle.ssa_model.proofs.Faults.{cons≢nil, nil_first, nil_second}
 use Rattle.ssa_model.proofs.SchemaMembers.{behind, no-fault, text-flat, among-flat, key_list-flat, one-of, name-passes, members-bounded, by_type}

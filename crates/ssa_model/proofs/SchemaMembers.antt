@@ -8,7 +8,8 @@ use Rattle.std.specs.Cmp.{first_so, second_so}
 use Rattle.ssa_model.specs.definitions.Json.{Text, text, whole, truth, Json, scalar, list, object, Items, no_items, item, Members, no_members, member, member_of, same_text, as_text, depth, items_depth, members_depth}
 use Rattle.ssa_model.specs.definitions.MemberNames.{has_distinct_names, are_distinct_members}
 use Rattle.ssa_model.specs.definitions.Objects.{is_missing}
-use Rattle.ssa_model.specs.definitions.Schema.{SchemaFault, schema_types, is_one_of_texts, is_text, is_text_among, names, texts_of, are_keys, is_key_list, is_scalar_type, is_object_type, is_array_type, fault_if, has_wrong_type}
+use Rattle.ssa_model.specs.definitions.Schema.{SchemaFault, schema_types, is_one_of_texts, is_text_among, names, are_keys, is_key_list, is_scalar_type, is_object_type, is_array_type, fault_if, has_wrong_type}
+use Rattle.ssa_model.specs.definitions.Values.{is_text, texts_of}
 use Rattle.ssa_model.proofs.Faults.{cons≢nil}
 use Rattle.ssa_model.proofs.Given.{and_then-back, map-back}
 use Rattle.ssa_model.proofs.Tables.{same_text-true, text-itself, either}

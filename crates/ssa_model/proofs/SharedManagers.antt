@@ -4,8 +4,9 @@ use Rattle.std.specs.Prelude.{filter, if◌then◌else◌}
 use Rattle.std.specs.Cmp.{first_so, second_so}
 use Rattle.ssa_model.specs.definitions.Json.{Text}
 use Rattle.ssa_model.specs.definitions.PathMap.{empty, is_empty}
-use Rattle.ssa_model.specs.definitions.Table.{ManagerKey, Entry, Table, same_manager, is_in_table, with_manager, reseated, seat}
+use Rattle.ssa_model.specs.definitions.Table.{Entry, Table, is_in_table, with_manager, reseated, seat}
 use Rattle.ssa_model.specs.definitions.Valid.{has_distinct_keys, AllEntries}
+use Rattle.ssa_model.specs.definitions.Keys.{ManagerKey, same_manager}
 use Rattle.ssa_model.specs.laws.KeepsValid.{OperationsKeepOrder}
 use Rattle.ssa_model.proofs.Tables.{KeepsKeys, manager-itself, apart-back, true_or, is_in_table-map, is_in_table-filter, with_manager-distinct}
 use Rattle.ssa_model.proofs.Basics.{or_true, not_true as no, first_false, second_false}

@@ -16,7 +16,7 @@ use Rattle.ssa_model.specs.definitions.Kind.{Kind, Fields, record_of, no_fields,
 use Rattle.ssa_model.specs.definitions.Body.{Body, flat, places, without_empty_metadata, is_empty_object}
 use Rattle.ssa_model.specs.definitions.Lawful.{IsSchemaKind, is_root_kind, is_ordered, are_ordered, is_before_all, has_metadata, names_none, fields_in}
 use Rattle.ssa_model.specs.definitions.Objects.{Identity, value_at, identity_of, is_named_text, is_missing, is_some_object, is_identity, same_value, same_identity, without, without_in_metadata, value_without, identity_names, file_names, body_value, shown, shown_fields, with_member, with_given, members_in, with_identity, object_of_body}
-use Rattle.ssa_model.specs.definitions.Commands.{text_in}
+use Rattle.ssa_model.specs.definitions.Values.{text_in}
 use Rattle.ssa_model.specs.definitions.GivenEntries.{table_of}
 use Rattle.ssa_model.specs.definitions.Readings.{Readings}
 use Rattle.ssa_model.specs.definitions.Schema.{Schema}

@@ -6,8 +6,8 @@ use Rattle.ssa_model.specs.definitions.Json.{Text, text, Json, scalar, list, obj
 use Rattle.ssa_model.specs.definitions.Kind as kinds
 use Rattle.ssa_model.specs.definitions.Kind.{Kind, Fields, record_of}
 use Rattle.ssa_model.specs.definitions.Body.{Body}
-use Rattle.ssa_model.specs.definitions.Commands.{text_in}
-use Rattle.ssa_model.specs.definitions.Entries.{text_json, entry_items, version_in, with_managed_fields, object_of_state}
+use Rattle.ssa_model.specs.definitions.Values.{text_in, text_json}
+use Rattle.ssa_model.specs.definitions.Entries.{entry_items, version_in, with_managed_fields, object_of_state}
 use Rattle.ssa_model.specs.definitions.GivenEntries.{table_of}
 use Rattle.ssa_model.specs.definitions.Lawful.{IsSchemaKind}
 use Rattle.ssa_model.specs.definitions.Objects.{Identity, value_at, identity_of, is_some_object, is_identity, file_names, without_in_metadata, file_value, with_member, members_in, shown_fields}

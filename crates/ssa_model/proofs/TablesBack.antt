@@ -4,31 +4,31 @@ use Rattle.std.proofs.lemmas.Bool.Decides.{nat_tests}
 use Rattle.std.specs.Prelude.{if◌then◌else◌, codes, nat_le, Ok, Err}
 use Rattle.std.specs.Cmp.{first_so, second_so}
 use Rattle.ssa_model.specs.definitions.Limits.{most_managers}
-use Rattle.ssa_model.specs.definitions.Json.{Text, Json, Members, no_members, member, member_of, same_text}
+use Rattle.ssa_model.specs.definitions.Json.{Text, Json, no_members, member, same_text, object, member_at}
 use Rattle.ssa_model.specs.definitions.Path.{Path}
 use Rattle.ssa_model.specs.definitions.PathMap.{paths, is_empty}
 use Rattle.ssa_model.specs.definitions.Body.{Body, is_ownable}
 use Rattle.ssa_model.specs.definitions.Parts.{Subresource, main, status}
-use Rattle.ssa_model.specs.definitions.Commands.{subresource_in}
-use Rattle.ssa_model.specs.definitions.Table.{Operation, applies, updates, ManagerKey, Entry, Table, same_manager, is_in_table}
+use Rattle.ssa_model.specs.definitions.Keys.{subresource_in, Operation, applies, updates, ManagerKey, same_manager, operation_text, with_key, operation_in}
+use Rattle.ssa_model.specs.definitions.Table.{Entry, Table, is_in_table}
 use Rattle.ssa_model.specs.definitions.Readings.{Readings}
 use Rattle.ssa_model.specs.definitions.FieldsV1.{fields_json, fields_faults}
-use Rattle.ssa_model.specs.definitions.Entries.{operation_text, text_json, part_members, entry_json, entry_items}
-use Rattle.ssa_model.specs.definitions.GivenEntries.{text_at, EntryFault, too_many_managers, bad_entry, manager_name, other_version, bad_moment, of_fields, empty_entry, absent_path, duplicate_manager, is_entry, operation_of, not_ownable, owned_fault, said_entry, entry_fault, members_entry, next_entry, table_behind}
+use Rattle.ssa_model.specs.definitions.Entries.{entry_json, entry_items}
+use Rattle.ssa_model.specs.definitions.GivenEntries.{EntryFault, too_many_managers, bad_entry, manager_name, other_version, bad_moment, of_fields, empty_entry, absent_path, duplicate_manager, is_entry, not_ownable, owned_fault, said_entry, entry_fault, next_entry, table_behind}
 use Rattle.ssa_model.specs.definitions.History.{is_manager_name}
 use Rattle.ssa_model.specs.definitions.BenchFile.{IsReadBack}
 use Rattle.ssa_model.specs.definitions.Valid.{has_distinct_keys, OwnsOwnable, AllEntries, IsTable}
+use Rattle.ssa_model.specs.definitions.Values.{text_json, text_at}
 use Rattle.ssa_model.proofs.PathMaps.{is_one_of, has-paths, same_path-itself}
 use Rattle.ssa_model.proofs.Tables.{text-itself, apart-back, true_or}
 use Rattle.ssa_model.proofs.Basics.{or_true, not_true as no, first_false, second_false}
 
--- ---- the members of an entry
+-- ---- an entry as it is written
 
-abbrev entry_of : Text → Json → Text → Operation → Subresource → Text → Members
+abbrev entry_of : Text → Json → Text → Operation → Subresource → Text → Json
 entry_of version fields name o s time =
-    member (codes "apiVersion") (text_json version) (member (codes "fieldsType") (text_json (codes "FieldsV1")) (member (codes "fieldsV1") fields
-    (member (codes "manager") (text_json name) (member (codes "operation") (text_json (operation_text o))
-    (part_members s (member (codes "time") (text_json time) no_members))))))
+    object (member (codes "apiVersion") (text_json version) (member (codes "fieldsType") (text_json (codes "FieldsV1")) (member (codes "fieldsV1") fields
+    (with_key (record { name = name; operation = o; part = s }) (member (codes "time") (text_json time) no_members)))))
 
 entry-is : (version : Text) (fields : Json) (name : Text) (o : Operation) (s : Subresource) (time : Text) → is_entry (entry_of version fields name o s time) ≡ true
 entry-is version fields name applies main time = refl
@@ -38,7 +38,7 @@ entry-is version fields name updates status time = refl
 
 -- what is read of an entry's members besides its operation
 part-back : (version : Text) (fields : Json) (name : Text) (o : Operation) (s : Subresource) (time : Text)
-    → subresource_in (member_of (codes "subresource") (entry_of version fields name o s time)) ≡ s
+    → subresource_in (member_at (codes "subresource") (entry_of version fields name o s time)) ≡ s
 part-back version fields name o main time = refl
 part-back version fields name o status time = refl
 
@@ -48,7 +48,7 @@ time-back version fields name o main time = refl
 time-back version fields name o status time = refl
 
 -- an operation is read back from its text
-pub operation-back : (o : Operation) → elim (operation_of (operation_text o)) [ Some q ↦ q | None ↦ applies ] ≡ o
+pub operation-back : (o : Operation) → operation_in (Some (text_json (operation_text o))) ≡ o
 operation-back applies = refl
 operation-back updates = refl
 
@@ -73,13 +73,13 @@ module _ (readings : Readings) (body : Body) (version : Text) where
     -- its set is read back, and its moment is one
     pub back : IsReadBack readings e
 
-  abbrev entry_members : Entry → Members
-  entry_members e = entry_of version (fields_json e.owned) e.manager.name e.manager.operation e.manager.part e.moment
+  abbrev written : Entry → Json
+  written e = entry_of version (fields_json e.owned) e.manager.name e.manager.operation e.manager.part e.moment
 
   abbrev told_time : Entry → Text
-  told_time e = text_at (codes "time") (entry_members e)
+  told_time e = text_at (codes "time") (written e)
 
-  said-is : (e : Entry) → IsGood e → said_entry readings (entry_members e) ≡ e
+  said-is : (e : Entry) → IsGood e → said_entry readings (written e) ≡ e
   said-is e g = λ i. record {
     manager = record {
       name = e.manager.name;
@@ -101,16 +101,16 @@ module _ (readings : Readings) (body : Body) (version : Text) where
 
   abbrev by_fields : Table → Entry → Option EntryFault
   by_fields before e = elim (fields_faults readings.value (fields_json e.owned))
-      [ f ∷ fs ↦ Some (of_fields f) | [] ↦ owned_fault body before (said_entry readings (entry_members e)) ]
+      [ f ∷ fs ↦ Some (of_fields f) | [] ↦ owned_fault body before (said_entry readings (written e)) ]
 
-  no-fault : (before : Table) (e : Entry) → IsGood e → is_in_table before e.manager ≡ false → entry_fault readings body version before (entry_members e) ≡ None
+  no-fault : (before : Table) (e : Entry) → IsGood e → is_in_table before e.manager ≡ false → entry_fault readings body version before (written e) ≡ None
   no-fault before e g new =
       ap (λ t. if not t then Some manager_name else (if not (same_text version version) then Some
       other_version else (if not (readings.moment (told_time e)) then Some bad_moment else by_fields before e))) g.name
       ∙ ap (λ t. if not t then Some other_version else (if not (readings.moment (told_time e)) then Some bad_moment else by_fields before e)) (text-itself version)
       ∙ ap (λ t. if not t then Some bad_moment else by_fields before e)
       (ap readings.moment (time-back version (fields_json e.owned) e.manager.name e.manager.operation e.manager.part e.moment) ∙ g.back.moment)
-      ∙ ap (λ fs. elim fs [ f ∷ rest ↦ Some (of_fields f) | [] ↦ owned_fault body before (said_entry readings (entry_members e)) ]) g.back.no_fault
+      ∙ ap (λ fs. elim fs [ f ∷ rest ↦ Some (of_fields f) | [] ↦ owned_fault body before (said_entry readings (written e)) ]) g.back.no_fault
       ∙ ap (owned_fault body before) (said-is e g) ∙ no-owned-fault before e g new
 
   few : (m : ℕ) → m < most_managers → nat_le 64 m ≡ false
@@ -119,11 +119,13 @@ module _ (readings : Readings) (body : Body) (version : Text) where
   entry-back : (before : Table) (e : Entry) → IsGood e → is_in_table before e.manager ≡ false → length before < most_managers
       → next_entry readings body version before (entry_json (text_json version) e) ≡ Ok e
   entry-back before e g new short =
-      ap (λ t. if t then Err too_many_managers else members_entry readings body version before (entry_members e)) (few (length before) short)
-      ∙ ap (λ t. if not t then Err bad_entry else (elim (entry_fault readings body version before (entry_members e))
-      [ Some f ↦ Err f | None ↦ Ok (said_entry readings (entry_members e)) ]))
+      ap (λ t. if t then Err too_many_managers else (if not (is_entry (written e)) then Err
+      bad_entry else (elim (entry_fault readings body version before (written e)) [ Some f ↦ Err f | None ↦ Ok (said_entry readings (written e)) ])))
+      (few (length before) short)
+      ∙ ap (λ t. if not t then Err bad_entry else (elim (entry_fault readings body version before (written e))
+      [ Some f ↦ Err f | None ↦ Ok (said_entry readings (written e)) ]))
       (entry-is version (fields_json e.owned) e.manager.name e.manager.operation e.manager.part e.moment)
-      ∙ ap (λ o. elim o [ Some f ↦ Err f | None ↦ Ok (said_entry readings (entry_members e)) ]) (no-fault before e g new)
+      ∙ ap (λ o. elim o [ Some f ↦ Err f | None ↦ Ok (said_entry readings (written e)) ]) (no-fault before e g new)
       ∙ ap Ok (said-is e g)
 
   -- ---- one behind the other

@@ -16,7 +16,7 @@ use Rattle.ssa_model.specs.definitions.Objects.{is_identity}
 use Rattle.ssa_model.specs.definitions.Parts.{Subresource, main, status}
 use Rattle.ssa_model.specs.definitions.Operations.{State}
 use Rattle.ssa_model.specs.definitions.Replies.{label_json}
-use Rattle.ssa_model.specs.definitions.Table.{Table, same_manager}
+use Rattle.ssa_model.specs.definitions.Table.{Table}
 use Rattle.ssa_model.specs.definitions.History.{Label, applied, updated, stripped, Step, Bench, is_manager_name}
 use Rattle.ssa_model.specs.definitions.Answers.{Fault, lone_bench, file_state, bench_with, bench_of}
 use Rattle.ssa_model.specs.definitions.BenchText.{states, head_of, head_json, whole_object, first_json, step_json, bench_values, bench_text}
@@ -24,6 +24,7 @@ use Rattle.ssa_model.specs.definitions.Valid.{AllEntries, IsValidState, shared_m
 use Rattle.ssa_model.specs.definitions.BenchFile.{IsReadBack, IsLabel, IsStep, IsSpelled, IsValidBench}
 use Rattle.ssa_model.specs.definitions.Formats.{can_tell_label, can_tell_state, CanTellStep, CanTell}
 use Rattle.ssa_model.specs.definitions.BenchOfStates.{text_lines, spelled_values, given_if, is_written_as, Head, head_in, schema_in, lone_in, said_label, is_label, label_in, keeps_order, step_with, step_in, steps_in, with_steps, values_bench, bench_in}
+use Rattle.ssa_model.specs.definitions.Keys.{same_manager}
 use Rattle.ssa_model.specs.laws.BenchFiles.{BenchFilesAreTaken}
 use Rattle.ssa_model.proofs.LoneBenches.{lone-parts}
 use Rattle.ssa_model.proofs.ShownStates.{shown_state_is_deep}

@@ -13,7 +13,7 @@ use Rattle.ssa_model.specs.definitions.Fitting.{IsBodyOf}
 use Rattle.ssa_model.specs.definitions.Table.{Table}
 use Rattle.ssa_model.specs.definitions.Operations.{State}
 use Rattle.ssa_model.specs.definitions.Objects.{Identity, value_at, is_identity, file_names, file_value}
-use Rattle.ssa_model.specs.definitions.Commands.{text_in}
+use Rattle.ssa_model.specs.definitions.Values.{text_in}
 use Rattle.ssa_model.specs.definitions.Entries.{object_of_state}
 use Rattle.ssa_model.specs.definitions.GivenEntries.{EntryFault, table_of}
 use Rattle.ssa_model.specs.definitions.Readings.{Readings}

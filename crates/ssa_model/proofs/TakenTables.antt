@@ -10,11 +10,12 @@ use Rattle.ssa_model.specs.definitions.Json.{Text, same_text}
 use Rattle.ssa_model.specs.definitions.Path.{Path, path_cmp}
 use Rattle.ssa_model.specs.definitions.PathMap.{PathSet, has, has_at_or_above, is_empty, minus, same_set}
 use Rattle.ssa_model.specs.definitions.Body.{Body}
-use Rattle.ssa_model.specs.definitions.Table.{ManagerKey, Entry, Table, same_manager, is_in_table, entry_of}
+use Rattle.ssa_model.specs.definitions.Table.{Entry, Table, is_in_table, entry_of}
 use Rattle.ssa_model.specs.definitions.History.{is_manager_name}
 use Rattle.ssa_model.specs.definitions.Valid.{AllEntries, OwnsOwnable, IsTable, has_distinct_keys, KeepsOrder}
 use Rattle.ssa_model.specs.definitions.Record.{Change, TableRecord, placed, new_moment, is_unchanged, change_to, change_of, table_record}
 use Rattle.ssa_model.specs.definitions.Carry.{is_key_among, change_for, carry_table}
+use Rattle.ssa_model.specs.definitions.Keys.{ManagerKey, same_manager}
 use Rattle.ssa_model.specs.laws.FittingRecords.{tells_something, ChangeFits, loses, is_given_up, EntryFits, HereFits, TableFits, TakenTableFits}
 use Rattle.ssa_model.proofs.PathMaps.{has-minus, same_sets, same_set-true}
 use Rattle.ssa_model.proofs.Tables.{true_or, ownable-has}

@@ -8,19 +8,20 @@ use Rattle.ssa_model.proofs.Basics.{not_true}
 use Rattle.ssa_model.specs.definitions.Json.{Json}
 use Rattle.ssa_model.specs.definitions.Kind.{Kind}
 use Rattle.ssa_model.specs.definitions.Parts.{Subresource, main, status, same_part}
-use Rattle.ssa_model.specs.definitions.Table.{ManagerKey, Entry, Table, is_in_table, entry_of, same_manager, same_operation}
+use Rattle.ssa_model.specs.definitions.Table.{Entry, Table, is_in_table, entry_of}
 use Rattle.ssa_model.specs.definitions.Json as json
 use Rattle.ssa_model.specs.definitions.Entries.{version_in}
 use Rattle.ssa_model.specs.definitions.Operations.{State}
 use Rattle.ssa_model.specs.definitions.History.{Label, applied, updated, stripped, Bench}
-use Rattle.ssa_model.specs.definitions.Replies.{list_json, label_json}
+use Rattle.ssa_model.specs.definitions.Replies.{label_json}
 use Rattle.ssa_model.specs.definitions.Record.{Change, Record, change_to, is_unchanged, change_of, changes, gone_from, placed, record_of}
-use Rattle.ssa_model.specs.definitions.RecordText.{change_json, gone_json, here_json, record_json}
-use Rattle.ssa_model.specs.definitions.RecordReading.{Test}
+use Rattle.ssa_model.specs.definitions.RecordText.{change_json, here_json, record_json}
+use Rattle.ssa_model.specs.definitions.Keys.{ManagerKey, same_manager, same_operation, key_values}
 use Rattle.ssa_model.specs.definitions.ToldParts.{has_item, has_subresource, is_key_of_subresource, is_entry_of_subresource, tells_subresource, line_tells_subresource}
 use Rattle.ssa_model.specs.definitions.BenchText.{Format}
 use Rattle.ssa_model.specs.definitions.RecordedBench.{record_line}
 use Rattle.ssa_model.specs.definitions.Formats.{is_main, is_main_label, is_main_state, tells_parts, can_tell_label, can_tell_state, can_tell_line}
+use Rattle.ssa_model.specs.definitions.Values.{list_json, Test}
 
 -- ---- what a written line tells
 
@@ -44,10 +45,10 @@ change-tells c = by c.manager.part c.moment
     by main (Some at) = refl
     by status m = refl
 
-gone-tells : (k : ManagerKey) → is_key_of_subresource (gone_json k) ≡ other k
+gone-tells : (k : ManagerKey) → is_key_of_subresource (key_values k) ≡ other k
 gone-tells k = by k.part
   where
-    by : (s : Subresource) → is_key_of_subresource (gone_json (record { name = k.name; operation = k.operation; part = s })) ≡ not (is_main s)
+    by : (s : Subresource) → is_key_of_subresource (key_values (record { name = k.name; operation = k.operation; part = s })) ≡ not (is_main s)
     by main = refl
     by status = refl
 
@@ -85,7 +86,7 @@ here_tell d = list_any (λ e. other e.1.manager) d.table.here
 record-tells : (version : Json) (kind : Kind) (d : Record) → tells_subresource (record_json version kind d) ≡ (changed_tell d || (gone_tell d || here_tell d))
 record-tells version kind d =
     let changed = any-of has_subresource change_json d.table.changed ∙ any-alike _ _ d.table.changed change-tells in
-    let gone = any-of is_key_of_subresource gone_json d.table.gone ∙ any-alike _ _ d.table.gone gone-tells in
+    let gone = any-of is_key_of_subresource key_values d.table.gone ∙ any-alike _ _ d.table.gone gone-tells in
     let here = any-of is_entry_of_subresource (here_json version) d.table.here ∙ any-alike _ _ d.table.here (here-tells version) in
     λ i. changed i || (gone i || here i)
 

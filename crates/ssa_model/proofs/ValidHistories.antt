@@ -9,7 +9,7 @@ use Rattle.ssa_model.specs.definitions.Json.{Text, Json}
 use Rattle.ssa_model.specs.definitions.PathMap.{PathSet, union, minus}
 use Rattle.ssa_model.specs.definitions.Kind.{Kind}
 use Rattle.ssa_model.specs.definitions.Body.{Body, points, added, modified, removed}
-use Rattle.ssa_model.specs.definitions.Table.{owned_by, Table, ManagerKey, key_of, applies, updates}
+use Rattle.ssa_model.specs.definitions.Table.{owned_by, Table}
 use Rattle.ssa_model.specs.definitions.Parts.{Actor, part_of, spliced}
 use Rattle.ssa_model.specs.definitions.Operations as operations
 use Rattle.ssa_model.specs.definitions.Operations.{State, Refusal}
@@ -17,6 +17,7 @@ use Rattle.ssa_model.specs.definitions.History.{moved_to, advanced, forgotten, f
 use Rattle.ssa_model.specs.definitions.Answers.{lone_state, Answer, Command, apply, update, strip, undo, redo, show, owners, log, Fault, fault, moved, nothing_to_undo, nothing_to_redo, refused, manager_name, no_subresource, has_part, command_body, accept, accept_or_refuse, apply_answer, with_body, answer}
 use Rattle.ssa_model.specs.definitions.Effect.{is_accepted}
 use Rattle.ssa_model.specs.definitions.Valid.{MakesValid, IsValidHistory, IsValidState, has_distinct_keys, KeepsOrder, KeepsOrders, MakesNamed, IsNextStep}
+use Rattle.ssa_model.specs.definitions.Keys.{ManagerKey, key_of, applies, updates}
 use Rattle.ssa_model.specs.laws.KeepsValid.{AcceptedGoesOn, NextKeepsHistory}
 use Rattle.ssa_model.proofs.Accepted.{applied_is, updated_is}
 use Rattle.ssa_model.proofs.SharedManagers.{operations_keep_order}

@@ -10,10 +10,11 @@ use Rattle.ssa_model.specs.definitions.Kind as kinds
 use Rattle.ssa_model.specs.definitions.Kind.{Kind, scalar_kind, atomic_of, record_of, dict_of, items_of}
 use Rattle.ssa_model.specs.definitions.Body.{Content, leaf, atom, record_branch, dict_branch, list_branch, Body, is_leaf, is_dict, is_bare, is_point, points, over, over_content, restricted_content, strictly_under}
 use Rattle.ssa_model.specs.definitions.Parts.{part_of, spliced}
-use Rattle.ssa_model.specs.definitions.Table.{ManagerKey, Table, same_manager, owned_by_others}
+use Rattle.ssa_model.specs.definitions.Table.{Table, owned_by_others}
 use Rattle.ssa_model.specs.definitions.Operations.{State, kept, pruned, dropped}
 use Rattle.ssa_model.specs.definitions.Fitting.{Place, of_kind, item_of, value_of, content_fits, IsBodyOf}
 use Rattle.ssa_model.specs.definitions.Valid.{OwnedOwnable, OwnsOwnable, AllEntries, IsRooted, metadata_path, IsValidState}
+use Rattle.ssa_model.specs.definitions.Keys.{ManagerKey, same_manager}
 use Rattle.ssa_model.specs.laws.KeepsValid.{ApplyKeepsValid, UpdateKeepsValid, StripKeepsValid}
 use Rattle.ssa_model.proofs.Accepted.{applied_is, updated_is}
 use Rattle.ssa_model.proofs.PathMaps.{get-over, get-restricted, has-set_of, has-union, has-points, has-paths, is_one_of}

@@ -9,7 +9,7 @@ use Rattle.std.specs.Prelude.{◌==◌, codes, nat_lt, nat_le, Result, Ok, Err}
 use Rattle.ssa_model.specs.definitions.Limits.{most_past, most_bench_bytes}
 use Rattle.ssa_model.specs.definitions.Json.{Json, member_at, compact}
 use Rattle.ssa_model.specs.definitions.Readings.{Readings}
-use Rattle.ssa_model.specs.definitions.Commands.{value_in}
+use Rattle.ssa_model.specs.definitions.Values.{value_in}
 use Rattle.ssa_model.specs.definitions.Schema.{Schema, SchemaFault, read_schema}
 use Rattle.ssa_model.specs.definitions.Kind.{Kind}
 use Rattle.ssa_model.specs.definitions.Operations.{State}

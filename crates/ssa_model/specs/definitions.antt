@@ -4,6 +4,8 @@
 pub mod Limits
 -- JSON values, their text, members by name
 pub mod Json
+-- values of texts, numbers and lists, the shapes of values, and what a value says, whatever its shape
+pub mod Values
 -- elements and paths, their texts and their order
 pub mod Path
 -- finite maps and sets of whole paths
@@ -16,6 +18,8 @@ pub mod Schema
 pub mod Body
 -- the parts of an object
 pub mod Parts
+-- the key of a manager, written and read
+pub mod Keys
 -- managers, and the table after a command
 pub mod Table
 -- given-up paths, pruning, clashes: Apply, Update and strip over whole states

@@ -6,9 +6,10 @@ use Rattle.std.specs.Cmp.Lexicographic.{slice_cmp}
 use Rattle.ssa_model.specs.definitions.Json.{Text, Json, list, object, Members, no_members, member, member_of}
 use Rattle.ssa_model.specs.definitions.Body.{Body}
 use Rattle.ssa_model.specs.definitions.Kind.{Kind}
-use Rattle.ssa_model.specs.definitions.Entries.{entry_items, object_of_state, text_json, version_in, with_entries}
+use Rattle.ssa_model.specs.definitions.Entries.{entry_items, object_of_state, version_in, with_entries}
 use Rattle.ssa_model.specs.definitions.Table.{Table}
 use Rattle.ssa_model.specs.definitions.Objects.{Identity, members_in, members_of_value, object_of_body, shown, value_at, with_given, with_member}
+use Rattle.ssa_model.specs.definitions.Values.{text_json}
 use Rattle.ssa_object.specs.Identities.{HasVersion}
 use Rattle.ssa_model.proofs.Tables.{text-itself as same_text-itself}
 use Rattle.ssa_model.proofs.PutMembers.{put-found as put-there}

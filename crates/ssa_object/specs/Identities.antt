@@ -2,8 +2,7 @@
 use Rattle.std.specs.Prelude.{◌≡◌, true, List, [], ◌∷◌, Option, Some, None, option_map, if◌then◌else◌, codes, ◌&&◌}
 use Rattle.ssa_model.specs.definitions.Json.{Text, Json}
 use Rattle.ssa_model.specs.definitions.Objects.{Identity, value_at, identity_of, is_identity, is_some_object}
-use Rattle.ssa_model.specs.definitions.Commands.{text_in}
-use Rattle.ssa_model.specs.definitions.Entries.{text_json}
+use Rattle.ssa_model.specs.definitions.Values.{text_in, text_json}
 use Rattle.ssa_json.specs.View.{view}
 use Rattle.ssa_object.specs.declared.identity.Identity.TheInside.{Inside}
 

@@ -1,10 +1,11 @@
 -- The text of the member that tells a part.
 use Rattle.std.proofs.Common.{◌≡◌, [], ◌∷◌, ◌++◌, true, refl, ap, ◌∙◌, append_assoc}
 use Rattle.std.specs.Prelude.{codes}
-use Rattle.ssa_model.specs.definitions.Entries.{part_members, text_json}
+use Rattle.ssa_model.specs.definitions.Keys.{part_members}
 use Rattle.ssa_model.specs.definitions.Json.{Text, Members, no_members, object, compact_members}
 use Rattle.ssa_model.specs.definitions.MemberNames.{is_below}
 use Rattle.ssa_model.specs.definitions.Parts.{Subresource, main, status}
+use Rattle.ssa_model.specs.definitions.Values.{text_json}
 use Rattle.ssa_model.proofs.Ascii.{ascii-is-utf8}
 use Rattle.ssa_json.specs.Writable.{IsOfProgram}
 use Rattle.ssa_json.proofs.OfProgram.{member-of-program, text-of-program}

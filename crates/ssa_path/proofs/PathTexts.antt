@@ -4,7 +4,8 @@ use Rattle.std.proofs.lemmas.List.{drop_all}
 use Rattle.std.specs.Borrow.{Bor}
 use Rattle.ssa_model.specs.definitions.Json.{Text, Json, list, comma_if, compact, compact_items}
 use Rattle.ssa_model.specs.definitions.Path.{Path}
-use Rattle.ssa_model.specs.definitions.Replies.{items_json, path_json}
+use Rattle.ssa_model.specs.definitions.Replies.{path_json}
+use Rattle.ssa_model.specs.definitions.Values.{items_json}
 use Rattle.ssa_json.specs.Writable.{IsOfProgram}
 use Rattle.ssa_json.proofs.ItemTexts.{both-of-program, items_json-map}
 use Rattle.ssa_json.proofs.Printing as one

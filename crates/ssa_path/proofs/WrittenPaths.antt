@@ -2,7 +2,8 @@
 use Rattle.std.proofs.Common.{◌≡◌, ℕ, ◌+◌, ◌<◌, ◌≤◌, List, [], ◌∷◌, ◌++◌, Bool, take, length, get_or, sym, ap, subst, ◌∙◌, append_assoc, take_all}
 use Rattle.ssa_model.specs.definitions.Json.{Text, compact_items}
 use Rattle.ssa_model.specs.definitions.Path.{Path}
-use Rattle.ssa_model.specs.definitions.Replies.{items_json, path_json}
+use Rattle.ssa_model.specs.definitions.Replies.{path_json}
+use Rattle.ssa_model.specs.definitions.Values.{items_json}
 use Rattle.ssa_json.proofs.ItemTexts.{both-of-program}
 use Rattle.ssa_path.specs.Listing.{behind}
 use Rattle.ssa_path.specs.Trie.{paths}

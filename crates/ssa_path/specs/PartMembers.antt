@@ -1,8 +1,8 @@
 -- The member that tells a part.
 use Rattle.std.specs.Prelude.{◌≡◌, ◌∷◌, ◌++◌, List, [], ℕ, Option, Some, None, codes, true, if◌then◌else◌}
 use Rattle.std.proofs.Common.{refl}
-use Rattle.ssa_model.specs.definitions.Commands.{is_subresource}
-use Rattle.ssa_model.specs.definitions.Entries.{part_members, text_json}
+use Rattle.ssa_model.specs.definitions.Keys.{is_subresource, part_members}
+use Rattle.ssa_model.specs.definitions.Values.{text_json}
 use Rattle.ssa_model.specs.definitions.Json.{Json, Members, compact_members, no_members}
 use Rattle.ssa_model.specs.definitions.Objects.{with_member}
 use Rattle.ssa_model.specs.definitions.Parts.{Subresource, main, status}

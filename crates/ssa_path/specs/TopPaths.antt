@@ -1,7 +1,7 @@
 -- Paths that are lent: the elements of a place, and one behind them or none.
 use Rattle.std.specs.Prelude.{[], ◌∷◌, ◌++◌, Option, Some, None}
 use Rattle.std.specs.Borrow.{Bor}
-use Rattle.ssa_model.specs.definitions.Entries.{text_json}
+use Rattle.ssa_model.specs.definitions.Values.{text_json}
 use Rattle.ssa_model.specs.definitions.Json.{Json}
 use Rattle.ssa_model.specs.definitions.Path.{Element, Path, element_text}
 use Rattle.ssa_path.specs.View.{element_view, path_view}

@@ -2,7 +2,8 @@
 use Rattle.std.specs.Prelude.{◌≡◌, List, ◌++◌, Bool}
 use Rattle.ssa_model.specs.definitions.Json.{Text, list, compact_items}
 use Rattle.ssa_model.specs.definitions.Path.{Path}
-use Rattle.ssa_model.specs.definitions.Replies.{items_json, path_json}
+use Rattle.ssa_model.specs.definitions.Replies.{path_json}
+use Rattle.ssa_model.specs.definitions.Values.{items_json}
 use Rattle.ssa_json.specs.Writable.{IsOfProgram}
 
 -- the paths came behind the old text, with a comma in front of each but the first of all: what is still to come stands behind them

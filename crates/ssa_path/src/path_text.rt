@@ -1,9 +1,9 @@
 //! Elements and paths, appended to JSON text.
 ghost use Rattle.std.specs.Prelude.{◌≡◌, [], ◌∷◌, ◌++◌, true, OnOk};
-ghost use Rattle.ssa_model.specs.definitions.Entries.{text_json};
+ghost use Rattle.ssa_model.specs.definitions.Values.{text_json, items_json};
 ghost use Rattle.ssa_model.specs.definitions.Json.{compact, compact_items, list, quoted};
 ghost use Rattle.ssa_model.specs.definitions.Path.{element_text, key, key_members, value};
-ghost use Rattle.ssa_model.specs.definitions.Replies.{items_json, path_json, paths_json};
+ghost use Rattle.ssa_model.specs.definitions.Replies.{path_json, paths_json};
 ghost use Rattle.ssa_json.specs.View.{scalar_view};
 ghost use Rattle.ssa_json.specs.Writable.{IsOfProgram};
 ghost use Rattle.ssa_json.specs.Written.{is_narrow_scalar, members_narrow};

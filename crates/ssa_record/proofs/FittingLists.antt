@@ -4,10 +4,11 @@ use Rattle.std.proofs.Math.Bool.{and-true}
 use Rattle.std.specs.Cmp.{first_so, second_so}
 use Rattle.std.specs.List.{cons_option}
 use Rattle.std.specs.Prelude.{if◌then◌else◌, filter, filter_map, is_some, Decides}
-use Rattle.ssa_model.specs.definitions.Table.{ManagerKey, Table, same_manager, is_in_table}
+use Rattle.ssa_model.specs.definitions.Table.{Table, is_in_table}
 use Rattle.ssa_model.specs.definitions.Valid.{has_distinct_keys}
 use Rattle.ssa_model.specs.definitions.Record.{Change, TableRecord}
 use Rattle.ssa_model.specs.definitions.Carry.{is_key_among, change_for}
+use Rattle.ssa_model.specs.definitions.Keys.{ManagerKey, same_manager}
 use Rattle.ssa_model.specs.laws.FittingRecords.{staying_managers}
 use Rattle.ssa_model.proofs.Tables.{apart-back, manager-itself, same_manager-true}
 use Rattle.ssa_model.proofs.Tests.{pointwise-true, pointwise-itself}

@@ -6,10 +6,11 @@ use Rattle.std.proofs.lemmas.List.{length-map}
 use Rattle.std.specs.Cmp.{first_so, second_so}
 use Rattle.std.specs.Prelude.{if◌then◌else◌, filter, nat_le, Decides}
 use Rattle.ssa_model.specs.definitions.Limits.{most_managers}
-use Rattle.ssa_model.specs.definitions.Table.{ManagerKey, Entry, Table, is_in_table}
+use Rattle.ssa_model.specs.definitions.Table.{Entry, Table, is_in_table}
 use Rattle.ssa_model.specs.definitions.Valid.{AllEntries, has_distinct_keys}
 use Rattle.ssa_model.specs.definitions.Record.{TableRecord, placed}
 use Rattle.ssa_model.specs.definitions.Carry.{placed_at, filled, end_of, is_key_among, change_for, changed_entry, staying, carry_table}
+use Rattle.ssa_model.specs.definitions.Keys.{ManagerKey}
 use Rattle.ssa_model.proofs.Tables.{KeepsKeys, all-filter, all-map, distinct-filter}
 use Rattle.ssa_model.proofs.SharedManagers.{each-in}
 use Rattle.ssa_model.proofs.Tests.{filter-kept, filter-dropped}

@@ -11,7 +11,7 @@ use Rattle.ssa_model.specs.definitions.PathMap.{get, has}
 use Rattle.ssa_model.specs.definitions.Kind as kinds
 use Rattle.ssa_model.specs.definitions.Kind.{Kind, Fields, scalar_kind, atomic_of, record_of, dict_of, items_of, is_among}
 use Rattle.ssa_model.specs.definitions.Body.{Body, Content, leaf, atom, record_branch, dict_branch, list_branch, order_at}
-use Rattle.ssa_model.specs.definitions.Commands.{value_in}
+use Rattle.ssa_model.specs.definitions.Values.{value_in}
 use Rattle.ssa_model.specs.definitions.Fitting.{Place, of_kind, item_of, value_of, place_below, content_fits}
 use Rattle.ssa_model.specs.definitions.Objects.{content_value, shown_fields, shown_items}
 use Rattle.ssa_model.specs.definitions.Json.{object}

@@ -3,7 +3,8 @@ use Rattle.std.proofs.Common.{◌≡◌, [], ◌∷◌, true, false, ◌&&◌, S
 use Rattle.std.proofs.lemmas.Option.{none-some}
 use Rattle.std.specs.Prelude.{if◌then◌else◌}
 use Rattle.ssa_model.specs.definitions.PathMap.{PathSet, empty, listed, minus, paths as set_paths}
-use Rattle.ssa_model.specs.definitions.Table.{ManagerKey, Table, same_manager, entry_of, owned_by}
+use Rattle.ssa_model.specs.definitions.Table.{Table, entry_of, owned_by}
+use Rattle.ssa_model.specs.definitions.Keys.{ManagerKey, same_manager}
 use Rattle.ssa_path.specs.Trie.{is_trie, paths}
 use Rattle.ssa_path.specs.declared.trie.Trie.{Trie}
 use Rattle.ssa_turn_set.specs.Room.{gain_room, left, lose_room}

@@ -8,7 +8,7 @@ use Rattle.ssa_model.specs.definitions.Path.{Element, field, Path}
 use Rattle.ssa_model.specs.definitions.PathMap.{get, has}
 use Rattle.ssa_model.specs.definitions.Kind.{Kind}
 use Rattle.ssa_model.specs.definitions.Body.{Content, record_branch, dict_branch, list_branch, Body}
-use Rattle.ssa_model.specs.definitions.Commands.{value_in}
+use Rattle.ssa_model.specs.definitions.Values.{value_in}
 use Rattle.ssa_model.specs.definitions.Objects.{content_value}
 use Rattle.ssa_model.specs.definitions.Fitting.{Place, of_kind, place_below, place_at, IsBodyOf}
 use Rattle.ssa_model.specs.definitions.Lawful.{is_ordered}

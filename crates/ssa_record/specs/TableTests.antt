@@ -2,10 +2,11 @@
 use Rattle.std.specs.Prelude.{◌≡◌, ◌≤◌, ℕ, ◌+◌, ◌-◌, List, [], ◌∷◌, Bool, true, not, ◌&&◌, filter, filter_map, map, length, is_some, nat_le}
 use Rattle.std.specs.Cmp.Lexicographic.{pointwise}
 use Rattle.ssa_model.specs.definitions.Limits.{most_managers}
-use Rattle.ssa_model.specs.definitions.Table.{ManagerKey, Entry, Table, same_manager, is_in_table}
+use Rattle.ssa_model.specs.definitions.Table.{Entry, Table, is_in_table}
 use Rattle.ssa_model.specs.definitions.Valid.{has_distinct_keys}
 use Rattle.ssa_model.specs.definitions.Record.{Change, TableRecord, placed}
 use Rattle.ssa_model.specs.definitions.Carry.{is_key_among, change_for, carry_table}
+use Rattle.ssa_model.specs.definitions.Keys.{ManagerKey, same_manager}
 use Rattle.ssa_model.specs.laws.FittingRecords.{staying_managers}
 
 -- ---- managers in table order

@@ -7,7 +7,8 @@ use Rattle.ssa_json.specs.declared.value.Json as value
 use Rattle.ssa_json.specs.declared.value.Scalar as value_scalar
 use Rattle.std.specs.Prelude.{Option, None, Some, option_map, option_and_then}
 use Rattle.ssa_model.specs.definitions.Json.{Text, Json, scalar, list, Items, no_items, item, same_text, as_text}
-use Rattle.ssa_model.specs.definitions.Schema.{is_one_of_texts, are_distinct_texts, are_keys, texts_of, is_key_list}
+use Rattle.ssa_model.specs.definitions.Schema.{is_one_of_texts, are_distinct_texts, are_keys, is_key_list}
+use Rattle.ssa_model.specs.definitions.Values.{texts_of}
 use Rattle.ssa_schema.proofs.Lawful.{same_turned}
 use Rattle.ssa_schema.specs.Words.{are_distinct_in, each_text}
 use Rattle.std.specs.List.{list_all}

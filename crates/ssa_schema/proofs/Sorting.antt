@@ -6,7 +6,8 @@ use Rattle.std.specs.BTreeSet.{insert_key}
 use Rattle.std.specs.Ordering.{match_ordering}
 use Rattle.std.specs.Cmp.Lexicographic.{slice_cmp}
 use Rattle.ssa_model.specs.definitions.Json.{Text, Json, Items, no_items, item, as_text}
-use Rattle.ssa_model.specs.definitions.Schema.{texts_of, with_text, sorted_texts}
+use Rattle.ssa_model.specs.definitions.Schema.{with_text, sorted_texts}
+use Rattle.ssa_model.specs.definitions.Values.{texts_of}
 use Rattle.ssa_schema.specs.Kinds.{names_view}
 use Rattle.ssa_schema.specs.Builds.{sorted_items}
 

@@ -1,7 +1,8 @@
 -- Words about the members of a schema.
 use Rattle.std.specs.Prelude.{List, Bool, true, false, not, ◌&&◌, Option, None, Some, is_some, codes}
 use Rattle.ssa_model.specs.definitions.Json.{Text, Json, scalar, list, object, Items, no_items, item, Members, no_members, member_of, same_text, as_text}
-use Rattle.ssa_model.specs.definitions.Schema.{is_text_among, is_key_list, is_scalar_type, are_distinct_texts, if_given, texts_of, schema_types}
+use Rattle.ssa_model.specs.definitions.Schema.{is_text_among, is_key_list, is_scalar_type, are_distinct_texts, if_given, schema_types}
+use Rattle.ssa_model.specs.definitions.Values.{texts_of}
 
 -- the value is the text
 abbrev pub value_is : Text → Json → Bool

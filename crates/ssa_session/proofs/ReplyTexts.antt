@@ -1,10 +1,9 @@
 -- The texts of replies.
 use Rattle.std.proofs.Common.{◌≡◌, ◌∷◌, [], ◌++◌, ap, ◌∙◌}
 use Rattle.std.specs.Prelude.{codes}
-use Rattle.ssa_model.specs.definitions.Entries.{operation_text, text_json}
+use Rattle.ssa_model.specs.definitions.Keys.{operation_text, ManagerKey, key_json}
 use Rattle.ssa_model.specs.definitions.Json.{Text, compact}
-use Rattle.ssa_model.specs.definitions.Table.{ManagerKey}
-use Rattle.ssa_model.specs.definitions.Replies.{key_json}
+use Rattle.ssa_model.specs.definitions.Values.{text_json}
 use Rattle.ssa_path.specs.PartMembers.{part_text}
 use Rattle.ssa_path.specs.PartMembers.{part-closed}
 use Rattle.ssa_model.proofs.ItemTexts.{joined}

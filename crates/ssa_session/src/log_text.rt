@@ -2,7 +2,8 @@
 ghost use Rattle.std.specs.Prelude.{◌≡◌, ◌++◌, IfOk, OnOk};
 ghost use Rattle.ssa_model.specs.definitions.Json.{compact};
 ghost use Rattle.ssa_model.specs.definitions.Answers.{logged};
-ghost use Rattle.ssa_model.specs.definitions.Replies.{label_json, list_json, reply_json, reply_text};
+ghost use Rattle.ssa_model.specs.definitions.Replies.{label_json, reply_json, reply_text};
+ghost use Rattle.ssa_model.specs.definitions.Values.{list_json};
 ghost use Rattle.ssa_turn.specs.Histories.{lent_labels};
 
 use ssa_json::write::push_comma;

@@ -2,8 +2,10 @@
 ghost use Rattle.std.specs.Prelude.{◌≡◌, ◌++◌, IfOk, OnOk, codes};
 ghost use Rattle.ssa_model.specs.definitions.Json.{compact};
 ghost use Rattle.ssa_model.specs.definitions.Answers as model;
-ghost use Rattle.ssa_model.specs.definitions.Replies.{changed_json, key_json, list_json, moved_json, reply_json, reply_text};
+ghost use Rattle.ssa_model.specs.definitions.Replies.{changed_json, moved_json, reply_json, reply_text};
 ghost use Rattle.ssa_model.specs.definitions.Subcommands.{init_json, init_text};
+ghost use Rattle.ssa_model.specs.definitions.Keys.{key_json};
+ghost use Rattle.ssa_model.specs.definitions.Values.{list_json};
 ghost use Rattle.ssa_json.specs.View.{view};
 ghost use Rattle.ssa_merge.specs.Managers.{key_view, lent_keys};
 ghost use Rattle.ssa_bench.specs.Benches.{changed_view};

@@ -5,7 +5,7 @@ use Rattle.std.specs.List.{list_any}
 use Rattle.std.specs.List.Sorted.{IsStrictlySortedBy}
 use Rattle.std.specs.Map.{keys_of}
 use Rattle.ssa_model.specs.definitions.Json.{Json, object, Members, no_members, member, member_of, same_text}
-use Rattle.ssa_model.specs.definitions.RecordReading.{Test, must_have, has_members}
+use Rattle.ssa_model.specs.definitions.Values.{Test, must_have, has_members}
 use Rattle.ssa_json.specs.View.{members_view, view}
 use Rattle.ssa_json.specs.declared.value.Json as values
 use Rattle.ssa_told.specs.LineValues.{IsLine, line_shape}

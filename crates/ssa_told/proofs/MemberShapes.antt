@@ -7,8 +7,7 @@ use Rattle.std.specs.List.Sorted.{IsStrictlySortedBy}
 use Rattle.std.specs.Map.{keys_of}
 use Rattle.std.specs.Cmp.{first_so, second_so}
 use Rattle.ssa_model.specs.definitions.Json.{Text, Json, object, Members, no_members, member, member_of, same_text}
-use Rattle.ssa_model.specs.definitions.RecordReading.{MemberShape, are_members_of, has_members}
-use Rattle.ssa_model.specs.definitions.Schema.{has_member}
+use Rattle.ssa_model.specs.definitions.Values.{MemberShape, are_members_of, has_members, has_member}
 use Rattle.ssa_model.proofs.Tests.{by_test, same_tests}
 use Rattle.ssa_json.specs.View.{members_view}
 use Rattle.ssa_json.specs.declared.value.Json as values

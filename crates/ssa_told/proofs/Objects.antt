@@ -5,9 +5,9 @@ use Rattle.std.specs.List.Sorted.{IsStrictlySortedBy}
 use Rattle.std.specs.Map.{keys_of}
 use Rattle.std.specs.Cmp.{first_so, second_so}
 use Rattle.ssa_model.specs.definitions.Json.{Text, Json, object, member_of}
-use Rattle.ssa_model.specs.definitions.Commands.{text_in, value_in, is_subresource}
-use Rattle.ssa_model.specs.definitions.RecordReading.{Test, MemberShape, has_members, is_fields, is_key, is_list_of, is_moment, is_operation, is_path, is_put, is_whole, change_shape, entry_shape, here_shape, record_shape, is_record_shape}
-use Rattle.ssa_model.specs.definitions.Schema.{is_text}
+use Rattle.ssa_model.specs.definitions.Values.{text_in, value_in, Test, MemberShape, has_members, is_list_of, is_whole, is_text}
+use Rattle.ssa_model.specs.definitions.RecordReading.{is_fields, is_moment, is_path, is_put, change_shape, entry_shape, here_shape, record_shape, is_record_shape}
+use Rattle.ssa_model.specs.definitions.Keys.{is_subresource, is_key, is_operation}
 use Rattle.ssa_json.specs.Readings.{readings}
 use Rattle.ssa_json.specs.View.{members_view}
 use Rattle.ssa_json.specs.declared.value.Json as values

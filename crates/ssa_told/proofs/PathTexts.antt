@@ -2,7 +2,7 @@
 use Rattle.std.proofs.Common.{◌≡◌, ℕ, List, ◌∷◌, ◌++◌, true, drop, refl, sym, true≢false}
 use Rattle.std.specs.Prelude.{Option, Some, None, Result, Ok, Err, is_some, option_and_then, option_map}
 use Rattle.ssa_model.specs.definitions.Json.{Text, text, whole, truth, Json, scalar, list, object, Items, item, as_text}
-use Rattle.ssa_model.specs.definitions.Schema.{texts_of}
+use Rattle.ssa_model.specs.definitions.Values.{texts_of}
 use Rattle.ssa_model.specs.definitions.Path.{Path}
 use Rattle.ssa_model.specs.definitions.ElementTexts.{ElementFault, path_of}
 use Rattle.ssa_json.specs.Reading.{json_reading}

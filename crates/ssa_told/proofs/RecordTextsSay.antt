@@ -6,7 +6,7 @@ use Rattle.std.specs.Cmp.{first_so, second_so}
 use Rattle.ssa_model.specs.definitions.Json.{Text, Json, list, item, same_text}
 use Rattle.ssa_model.specs.definitions.Body.{Content}
 use Rattle.ssa_model.specs.definitions.ElementTexts.{ElementFault, element_of, is_index, next_element, path_of, spelled_element, index_element, bad_element, not_canonical}
-use Rattle.ssa_model.specs.definitions.Entries.{text_json}
+use Rattle.ssa_model.specs.definitions.Values.{text_json, Test, all_items, has_items, has_members, is_anything, items_in, items_json, texts_of}
 use Rattle.ssa_model.specs.definitions.Fitting.{of_kind, place_at}
 use Rattle.ssa_model.specs.definitions.Kind.{Kind}
 use Rattle.ssa_model.specs.definitions.Objects.{content_value}
@@ -14,10 +14,10 @@ use Rattle.ssa_model.specs.definitions.Path.{Element, Path, element_text}
 use Rattle.ssa_model.specs.definitions.PathMap.{paths}
 use Rattle.ssa_model.specs.definitions.Readings.{Readings}
 use Rattle.ssa_model.specs.definitions.Record.{Part, Record, record_of}
-use Rattle.ssa_model.specs.definitions.RecordReading.{Test, all_items, has_items, has_members, is_anything, is_key, is_path, is_put, is_read_path, is_record_shape, items_in, order_in, path_in, change_shape, here_shape}
-use Rattle.ssa_model.specs.definitions.RecordText.{change_json, gone_json, here_json, leaf_json, order_json, place_items, part_value, put_json, record_json}
-use Rattle.ssa_model.specs.definitions.Replies.{items_json, path_json}
-use Rattle.ssa_model.specs.definitions.Schema.{texts_of}
+use Rattle.ssa_model.specs.definitions.RecordReading.{is_path, is_put, is_read_path, is_record_shape, order_in, path_in, change_shape, here_shape}
+use Rattle.ssa_model.specs.definitions.RecordText.{change_json, here_json, leaf_json, order_json, place_items, part_value, put_json, record_json}
+use Rattle.ssa_model.specs.definitions.Replies.{path_json}
+use Rattle.ssa_model.specs.definitions.Keys.{is_key, key_values}
 use Rattle.ssa_model.proofs.RecordsBack.{record_texts_have_shape, record_texts_are_read}
 use Rattle.ssa_model.proofs.Texts.{element_text-injective}
 use Rattle.ssa_model.proofs.Tables.{same_text-true}
@@ -131,7 +131,7 @@ module _ (readings : Readings) where
     cut = all_items (is_path readings) (items_json path_json (paths d.body.cut))
 
     abbrev gone : Bool
-    gone = all_items is_key (items_json gone_json d.table.gone)
+    gone = all_items is_key (items_json key_values d.table.gone)
 
     abbrev here : Bool
     here = all_items (has_members (here_shape readings)) (items_json (here_json version) d.table.here)

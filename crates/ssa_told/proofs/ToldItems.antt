@@ -1,7 +1,7 @@
 -- What is told of a list's items: of a pair, of a triple, and of all, one after another.
 use Rattle.std.proofs.Common.{◌≡◌, ℕ, suc, List, [], ◌∷◌, ◌++◌, map, length, get_or, drop, Bool, true, false, ◌&&◌, refl, sym, ap, ◌∙◌, arith, Vec, Global}
 use Rattle.ssa_model.specs.definitions.Json.{Json, list}
-use Rattle.ssa_model.specs.definitions.RecordReading.{Test, all_items, items_in, has_items, items_pass}
+use Rattle.ssa_model.specs.definitions.Values.{Test, all_items, items_in, has_items, items_pass}
 use Rattle.ssa_json.specs.View.{view, items_view}
 use Rattle.ssa_json.specs.declared.value.Json as values
 use Rattle.ssa_json.specs.declared.value.Json.TheVariants.{List as value_list}

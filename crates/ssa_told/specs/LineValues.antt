@@ -1,7 +1,7 @@
 -- What the value of the line of a command and its record has.
 use Rattle.std.specs.Prelude.{◌≡◌, false, ◌&&◌, List, [], ◌∷◌, Option, Some, None, codes}
 use Rattle.ssa_model.specs.definitions.Json.{Json, member_at}
-use Rattle.ssa_model.specs.definitions.RecordReading.{Test, MemberShape, must_have, has_members}
+use Rattle.ssa_model.specs.definitions.Values.{Test, MemberShape, must_have, has_members}
 use Rattle.ssa_json.specs.View.{view}
 use Rattle.ssa_told.specs.declared.line_values.LineValues.{LineValues}
 

@@ -2,7 +2,7 @@
 use Rattle.std.specs.Prelude.{◌≡◌, List, [], Option, Some, None, Result, Ok, Err, Vec}
 use Rattle.std.specs.Global.{Global}
 use Rattle.ssa_model.specs.definitions.Json.{Text, Json, list, Items}
-use Rattle.ssa_model.specs.definitions.Schema.{texts_of}
+use Rattle.ssa_model.specs.definitions.Values.{texts_of}
 use Rattle.ssa_model.specs.definitions.Path as model
 use Rattle.ssa_model.specs.definitions.ElementTexts.{ElementFault, bad_element, index_element, not_canonical, path_of}
 use Rattle.ssa_json.specs.Reading.{json_reading}

@@ -1,7 +1,7 @@
 -- The value of the record of two states says just what the record tells.
 use Rattle.std.specs.Prelude.{◌≡◌}
 use Rattle.ssa_model.specs.definitions.Json.{Text}
-use Rattle.ssa_model.specs.definitions.Entries.{text_json}
+use Rattle.ssa_model.specs.definitions.Values.{text_json}
 use Rattle.ssa_model.specs.definitions.Kind.{Kind}
 use Rattle.ssa_model.specs.definitions.Lawful.{IsSchemaKind}
 use Rattle.ssa_model.specs.definitions.Operations.{State}

@@ -1,11 +1,11 @@
 -- The shapes of the parts of a record's value.
 use Rattle.std.specs.Prelude.{◌≡◌, Bool, true, ◌&&◌, List, [], ◌∷◌, codes}
-use Rattle.ssa_model.specs.definitions.Commands.{is_subresource}
+use Rattle.ssa_model.specs.definitions.Keys.{is_subresource, is_key, is_operation}
 use Rattle.ssa_model.specs.definitions.GivenEntries.{said_entry}
 use Rattle.ssa_model.specs.definitions.Json.{Json, object, Members, member_of}
 use Rattle.ssa_model.specs.definitions.Objects.{members_of_value}
-use Rattle.ssa_model.specs.definitions.RecordReading.{MemberShape, Test, is_anything, is_key, is_list_of, is_operation, is_path, is_put, is_whole, has_items, has_members, change_shape, entry_shape, here_shape, record_shape}
-use Rattle.ssa_model.specs.definitions.Schema.{is_text}
+use Rattle.ssa_model.specs.definitions.RecordReading.{is_path, is_put, change_shape, entry_shape, here_shape, record_shape}
+use Rattle.ssa_model.specs.definitions.Values.{MemberShape, Test, is_anything, is_list_of, is_whole, has_items, has_members, is_text}
 use Rattle.ssa_model.specs.definitions.Table as model
 use Rattle.ssa_json.specs.Readings.{readings}
 use Rattle.ssa_told.specs.declared.member_names.Shape.{Shape}

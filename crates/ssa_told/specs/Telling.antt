@@ -3,9 +3,9 @@ use Rattle.std.specs.Prelude.{◌≡◌, true, false, not, Bool, List, [], ◌�
 use Rattle.std.specs.Global.{Global}
 use Rattle.std.specs.List.{list_any, list_all}
 use Rattle.ssa_model.specs.definitions.Json.{Text, Json, list, no_items, item, Members, no_members, member, member_of, same_text, as_text}
-use Rattle.ssa_model.specs.definitions.Commands.{text_in, value_in, is_subresource, subresource_in}
-use Rattle.ssa_model.specs.definitions.RecordReading.{Test, MemberShape, has_items, is_list_of, is_moment, is_operation, list_in, operation_at}
-use Rattle.ssa_model.specs.definitions.Schema.{is_text}
+use Rattle.ssa_model.specs.definitions.Values.{text_in, value_in, Test, MemberShape, has_items, is_list_of, list_in, is_text}
+use Rattle.ssa_model.specs.definitions.RecordReading.{is_moment}
+use Rattle.ssa_model.specs.definitions.Keys.{is_subresource, subresource_in, is_operation, operation_in}
 use Rattle.ssa_json.specs.Readings.{readings}
 use Rattle.ssa_path.specs.Subresources.{part_view}
 use Rattle.ssa_path.specs.declared.part.Part.{Part}
@@ -76,7 +76,7 @@ are_key n o s = passes is_text n && (passes is_operation o && may_pass is_subres
 -- Something is told exactly where there are these, and it is their manager.
 abbrev pub TellsKey : Option ManagerKey → Option Json → Option Json → Option Json → Type 0
 TellsKey (Some k) n o s =
-    (are_key n o s ≡ true) × (key_view k ≡ record { name = text_in n; operation = operation_at o; part = subresource_in s })
+    (are_key n o s ≡ true) × (key_view k ≡ record { name = text_in n; operation = operation_in o; part = subresource_in s })
 TellsKey None n o s = are_key n o s ≡ false
 
 -- ---- moments that may be told

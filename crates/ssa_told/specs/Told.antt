@@ -5,15 +5,16 @@ use Rattle.ssa_model.specs.definitions.Path.{Element, Path}
 use Rattle.ssa_model.specs.definitions.PathMap.{paths}
 use Rattle.ssa_model.specs.definitions.Kind.{Kind}
 use Rattle.ssa_model.specs.definitions.Body.{Content}
-use Rattle.ssa_model.specs.definitions.Commands.{value_in}
+use Rattle.ssa_model.specs.definitions.Values.{value_in, list_in, item_at, member_in}
 use Rattle.ssa_model.specs.definitions.Fitting.{of_kind, place_at}
 use Rattle.ssa_model.specs.definitions.Objects.{content_value}
 use Rattle.ssa_model.specs.definitions.Readings.{Readings}
 use Rattle.ssa_model.specs.definitions.Record as model
 use Rattle.ssa_model.specs.definitions.Record.{Part, BodyRecord, TableRecord}
-use Rattle.ssa_model.specs.definitions.RecordReading.{list_in, item_at, key_in, member_in, change_in, here_in, order_in, path_in, place_given}
+use Rattle.ssa_model.specs.definitions.RecordReading.{change_in, here_in, order_in, path_in, place_given}
 use Rattle.ssa_model.specs.definitions.RecordText.{part_value}
 use Rattle.ssa_model.specs.definitions.Table as table_model
+use Rattle.ssa_model.specs.definitions.Keys.{key_in}
 use Rattle.ssa_json.specs.View.{view}
 use Rattle.ssa_merge.specs.Managers.{entry_view, key_view}
 use Rattle.ssa_path.specs.View.{path_view}

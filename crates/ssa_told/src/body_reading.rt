@@ -3,7 +3,8 @@ ghost use Rattle.std.specs.Prelude.{◌≡◌, true, false, Some, IfOk, MatchOpt
 ghost use Rattle.ssa_json.specs.Readings.{readings};
 ghost use Rattle.ssa_json.specs.View.{view, members_view};
 ghost use Rattle.ssa_model.specs.definitions.Json.{member_of};
-ghost use Rattle.ssa_model.specs.definitions.RecordReading.{has_items, is_anything, is_path, is_put, order_in, path_in};
+ghost use Rattle.ssa_model.specs.definitions.RecordReading.{is_path, is_put, order_in, path_in};
+ghost use Rattle.ssa_model.specs.definitions.Values.{has_items, is_anything};
 ghost use Rattle.ssa_told.specs.Shapes.{is_leaf, is_order, is_placed};
 ghost use Rattle.ssa_told.specs.Telling.{Tells, TellsList};
 ghost use Rattle.ssa_told.specs.Told.{told_leaf, told_order, told_put, said_leaf, said_put};

@@ -3,7 +3,7 @@ ghost use Rattle.std.specs.Prelude.{Some, IfOk, codes, option_map};
 ghost use Rattle.ssa_json.specs.View.{view, members_view};
 ghost use Rattle.ssa_merge.specs.Managers.{key_view, operation_view};
 ghost use Rattle.ssa_model.specs.definitions.Json.{member_of};
-ghost use Rattle.ssa_model.specs.definitions.RecordReading.{is_key, is_operation, key_in, operation_at};
+ghost use Rattle.ssa_model.specs.definitions.Keys.{is_key, is_operation, key_in, operation_in};
 ghost use Rattle.ssa_told.specs.Shapes.{is_longer_key};
 ghost use Rattle.ssa_told.specs.Telling.{Tells, TellsKey, TellsList, TellsPart};
 
@@ -18,7 +18,7 @@ use ssa_path::part_members::part_of_name;
 use std::alloc::{AllocError, Global};
 
 fn told_operation(value: &Json) -> Option<Operation>
-    ensures { Tells is_operation operation_view (λ v. operation_at (Some v)) result (Some (view value.now)) }
+    ensures { Tells is_operation operation_view (λ v. operation_in (Some v)) result (Some (view value.now)) }
 {
     operation_of(value.as_text()?)
 }

@@ -1,7 +1,7 @@
 //! Paths that are given by their elements' texts.
 ghost use Rattle.std.specs.Prelude.{◌≡◌, true, is_some};
 ghost use Rattle.ssa_json.specs.View.{items_view};
-ghost use Rattle.ssa_model.specs.definitions.Schema.{texts_of};
+ghost use Rattle.ssa_model.specs.definitions.Values.{texts_of};
 ghost use Rattle.ssa_told.specs.PathTexts.{ReadsElements, ReadsPath};
 
 use ssa_json::reading_room::ReadingRoom;

@@ -1,7 +1,7 @@
 //! Whether the value of a record tells managers that act through a subresource.
 ghost use Rattle.std.specs.Prelude.{◌≡◌, codes};
 ghost use Rattle.ssa_json.specs.View.{view, items_view, members_view};
-ghost use Rattle.ssa_model.specs.definitions.Commands.{value_in};
+ghost use Rattle.ssa_model.specs.definitions.Values.{value_in};
 ghost use Rattle.ssa_model.specs.definitions.Json.{member_of};
 ghost use Rattle.ssa_model.specs.definitions.ToldParts.{any_item, has_subresource, is_entry_of_subresource, is_key_of_subresource, tells_subresource};
 ghost use Rattle.ssa_told.specs.ToldParts.{items_of};

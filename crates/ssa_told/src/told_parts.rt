@@ -2,10 +2,10 @@
 ghost use Rattle.std.specs.Prelude.{Some, IfOk, codes};
 ghost use Rattle.ssa_json.specs.Readings.{readings};
 ghost use Rattle.ssa_json.specs.View.{view, members_view};
-ghost use Rattle.ssa_model.specs.definitions.Commands.{text_in};
+ghost use Rattle.ssa_model.specs.definitions.Values.{text_in, is_whole, number_of};
 ghost use Rattle.ssa_model.specs.definitions.FieldsV1.{said_set};
 ghost use Rattle.ssa_model.specs.definitions.Json.{member_of};
-ghost use Rattle.ssa_model.specs.definitions.RecordReading.{is_fields, is_moment, is_path, is_whole, number_of, path_in};
+ghost use Rattle.ssa_model.specs.definitions.RecordReading.{is_fields, is_moment, is_path, path_in};
 ghost use Rattle.ssa_path.specs.View.{path_view};
 ghost use Rattle.ssa_told.specs.Telling.{Tells};
 

@@ -2,7 +2,7 @@
 ghost use Rattle.std.specs.Prelude.{◌≡◌, MatchOption, is_some, option_map, option_and_then};
 ghost use Rattle.ssa_json.specs.View.{view, items_view, members_view};
 ghost use Rattle.ssa_model.specs.definitions.Json.{as_text, member_of};
-ghost use Rattle.ssa_model.specs.definitions.Schema.{is_text, texts_of};
+ghost use Rattle.ssa_model.specs.definitions.Values.{is_text, texts_of};
 ghost use Rattle.ssa_told.specs.PathTexts.{as_list};
 ghost use Rattle.ssa_told.specs.Telling.{IsNoPair, IsNoTriple, pair, triple};
 

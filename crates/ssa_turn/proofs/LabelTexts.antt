@@ -3,11 +3,12 @@ use Rattle.std.proofs.Common.{◌≡◌, [], ◌∷◌, ◌++◌, Bool, true, fa
 use Rattle.std.proofs.lemmas.List.{append-nil}
 use Rattle.std.specs.Prelude.{codes}
 use Rattle.std.specs.Str.{is_utf8}
-use Rattle.ssa_model.specs.definitions.Entries.{part_members, text_json}
+use Rattle.ssa_model.specs.definitions.Keys.{part_members}
 use Rattle.ssa_model.specs.definitions.History.{applied, stripped, updated}
 use Rattle.ssa_model.specs.definitions.Json.{Text, Members, scalar, truth, object, member, no_members, compact, compact_members}
 use Rattle.ssa_model.specs.definitions.Parts.{Actor, Subresource, main, status}
 use Rattle.ssa_model.specs.definitions.Replies.{label_json}
+use Rattle.ssa_model.specs.definitions.Values.{text_json}
 use Rattle.ssa_model.proofs.Ascii.{ascii-is-utf8}
 use Rattle.ssa_json.specs.MemberTexts.{member_text, name_text}
 use Rattle.ssa_json.specs.Writable.{IsOfProgram, is_below}

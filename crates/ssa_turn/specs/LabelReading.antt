@@ -1,8 +1,9 @@
 -- What the members of a label's value say.
 use Rattle.std.specs.Prelude.{◌≡◌, Bool, true, false, Option, Some, None, codes}
 use Rattle.ssa_model.specs.definitions.Json.{Text, Json, member_at}
-use Rattle.ssa_model.specs.definitions.Commands.{text_in, truth_in, subresource_in}
+use Rattle.ssa_model.specs.definitions.Values.{text_in, truth_in}
 use Rattle.ssa_model.specs.definitions.Parts.{Actor}
+use Rattle.ssa_model.specs.definitions.Keys.{subresource_in}
 use Rattle.ssa_json.specs.Readings.{readings}
 
 abbrev pub said_text : Text → Json → Text

@@ -7,7 +7,7 @@ ghost use Rattle.ssa_json.specs.View.{view};
 ghost use Rattle.ssa_turn.specs.Histories.{label_view};
 ghost use Rattle.ssa_turn.specs.LabelReading.{MomentIn, said_actor, said_text, said_truth};
 ghost use Rattle.ssa_path.specs.Subresources.{part_view};
-ghost use Rattle.ssa_model.specs.definitions.Commands.{subresource_in};
+ghost use Rattle.ssa_model.specs.definitions.Keys.{subresource_in};
 ghost use Rattle.ssa_model.specs.definitions.Json.{member_at};
 
 use crate::label::Label;

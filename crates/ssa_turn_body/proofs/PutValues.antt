@@ -10,8 +10,9 @@ use Rattle.ssa_model.specs.definitions.Path.{Element, Path}
 use Rattle.ssa_model.specs.definitions.PathMap.{below, from_entries, get}
 use Rattle.ssa_model.specs.definitions.Record.{Part}
 use Rattle.ssa_model.specs.definitions.RecordText.{part_value, place_items, put_json}
-use Rattle.ssa_model.specs.definitions.Replies.{items_json, list_json, path_json}
+use Rattle.ssa_model.specs.definitions.Replies.{path_json}
 use Rattle.ssa_model.specs.definitions.Takes.{BodyTakes}
+use Rattle.ssa_model.specs.definitions.Values.{items_json, list_json}
 use Rattle.ssa_model.proofs.PutParts.{AllAt, IsPut, all-from_entries, all-puts, get-below}
 use Rattle.ssa_json.proofs.Listed.{items-made}
 use Rattle.ssa_json.specs.View.{items_of}

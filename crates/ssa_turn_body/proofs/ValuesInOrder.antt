@@ -6,7 +6,7 @@ use Rattle.std.specs.Ordering.{match_ordering, on}
 use Rattle.ssa_model.specs.definitions.Json.{Json, list}
 use Rattle.ssa_model.specs.definitions.Path.{Path, path_cmp}
 use Rattle.ssa_model.specs.definitions.PathMap.{from_entries}
-use Rattle.ssa_model.specs.definitions.Replies.{list_json}
+use Rattle.ssa_model.specs.definitions.Values.{list_json}
 use Rattle.ssa_model.proofs.Texts.{same_path_same}
 use Rattle.ssa_json.specs.View.{items_of}
 use Rattle.ssa_json.proofs.Listed.{items-made}

@@ -2,7 +2,8 @@
 ghost use Rattle.std.specs.Prelude.{◌≡◌, ◌<◌, ◌^◌, [], ◌∷◌, ◌++◌, true, false, IfSome, OnOk};
 ghost use Rattle.ssa_model.specs.definitions.Json.{compact, compact_items, item, list, no_items};
 ghost use Rattle.ssa_model.specs.definitions.RecordText.{place_items};
-ghost use Rattle.ssa_model.specs.definitions.Replies.{list_json, path_json};
+ghost use Rattle.ssa_model.specs.definitions.Replies.{path_json};
+ghost use Rattle.ssa_model.specs.definitions.Values.{list_json};
 ghost use Rattle.ssa_json.specs.Writable.{IsOfProgram};
 ghost use Rattle.ssa_path.specs.TopPaths.{lent_path};
 ghost use Rattle.ssa_path.specs.View.{path_view};

@@ -3,7 +3,7 @@ ghost use Rattle.std.specs.Prelude.{◌≡◌, IfOk};
 ghost use Rattle.ssa_model.specs.definitions.Json.{item, list, no_items};
 ghost use Rattle.ssa_model.specs.definitions.PathMap.{from_entries};
 ghost use Rattle.ssa_model.specs.definitions.RecordText.{place_items};
-ghost use Rattle.ssa_model.specs.definitions.Replies.{list_json};
+ghost use Rattle.ssa_model.specs.definitions.Values.{list_json};
 ghost use Rattle.ssa_json.specs.View.{view};
 ghost use Rattle.ssa_path.specs.TopPaths.{lent_path};
 ghost use Rattle.ssa_typed.specs.Values.{value_of};

@@ -1,6 +1,6 @@
 //! Records of states as JSON values, and their texts.
 ghost use Rattle.std.specs.Prelude.{◌≡◌, ◌++◌, true, IfOk, OnOk};
-ghost use Rattle.ssa_model.specs.definitions.Entries.{text_json};
+ghost use Rattle.ssa_model.specs.definitions.Values.{text_json};
 ghost use Rattle.ssa_model.specs.definitions.Json.{compact, no_members, object};
 ghost use Rattle.ssa_model.specs.definitions.Kind.{Kind};
 ghost use Rattle.ssa_model.specs.definitions.Lawful.{is_ordered};

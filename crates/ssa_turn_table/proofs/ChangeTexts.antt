@@ -2,13 +2,14 @@
 use Rattle.std.proofs.Common.{◌≡◌, [], ◌∷◌, ◌++◌, Option, Some, None, true, false, refl}
 use Rattle.std.specs.Prelude.{codes}
 use Rattle.std.specs.Str.{is_utf8}
-use Rattle.ssa_model.specs.definitions.Entries.{operation_text, part_members, text_json}
+use Rattle.ssa_model.specs.definitions.Keys.{operation_text, part_members}
 use Rattle.ssa_model.specs.definitions.FieldsV1.{fields_json}
 use Rattle.ssa_model.specs.definitions.Json.{Text, Json, Members, member, object, compact, compact_members}
 use Rattle.ssa_model.specs.definitions.MemberNames.{is_below}
 use Rattle.ssa_model.specs.definitions.Parts.{Subresource, main, status}
 use Rattle.ssa_model.specs.definitions.Record.{Change}
 use Rattle.ssa_model.specs.definitions.RecordText.{change_json, time_members}
+use Rattle.ssa_model.specs.definitions.Values.{text_json}
 use Rattle.ssa_model.proofs.Ascii.{ascii-is-utf8}
 use Rattle.ssa_json.specs.MemberTexts.{member_text}
 use Rattle.ssa_json.specs.Writable.{IsOfProgram}

@@ -5,9 +5,10 @@ use Rattle.std.specs.Cmp.{first_so, second_so}
 use Rattle.std.specs.List.{cons_option}
 use Rattle.std.specs.Prelude.{if◌then◌else◌, not}
 use Rattle.ssa_model.specs.definitions.PathMap.{PathSet}
-use Rattle.ssa_model.specs.definitions.Table.{ManagerKey, Entry, Table, same_manager, is_in_table, entry_of, owned_by}
+use Rattle.ssa_model.specs.definitions.Table.{Entry, Table, is_in_table, entry_of, owned_by}
 use Rattle.ssa_model.specs.definitions.Valid.{has_distinct_keys}
 use Rattle.ssa_model.specs.definitions.Record.{Change, change_of, change_to, changes, is_unchanged}
+use Rattle.ssa_model.specs.definitions.Keys.{ManagerKey, same_manager}
 use Rattle.ssa_model.proofs.Tables.{manager-itself, same_manager-true}
 use Rattle.ssa_merge.specs.Managers.{key_view}
 use Rattle.ssa_turn_set.specs.Turn.{SetSteps, HasRoom, IsLed, set_between, set_steps, set_target}

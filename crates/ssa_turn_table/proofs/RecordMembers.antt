@@ -2,7 +2,7 @@
 use Rattle.std.proofs.Common.{◌≡◌, ℕ, zero, suc, ◌+◌, ◌<◌, ◌≤◌, ◌^◌, List, [], ◌∷◌, Bool, true, false, length, get_or, Option, Some, None, refl, sym, subst, arith}
 use Rattle.std.specs.Prelude.{codes, if◌then◌else◌}
 use Rattle.ssa_model.specs.definitions.Json.{Json, Text, no_members, member}
-use Rattle.ssa_model.specs.definitions.Entries.{part_members}
+use Rattle.ssa_model.specs.definitions.Keys.{part_members}
 use Rattle.ssa_model.specs.definitions.Objects.{with_member}
 use Rattle.ssa_model.specs.definitions.Parts.{Subresource, main, status}
 use Rattle.ssa_model.specs.definitions.PathMap.{PathSet}

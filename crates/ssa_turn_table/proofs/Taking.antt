@@ -3,8 +3,9 @@ use Rattle.std.proofs.Common.{◌≡◌, ℕ, zero, suc, ◌+◌, ◌<◌, ◌�
 use Rattle.std.proofs.lemmas.List.{map-append}
 use Rattle.std.specs.List.{remove}
 use Rattle.std.specs.Prelude.{filter, if◌then◌else◌}
-use Rattle.ssa_model.specs.definitions.Table.{ManagerKey, Entry, Table, is_in_table}
+use Rattle.ssa_model.specs.definitions.Table.{Entry, Table, is_in_table}
 use Rattle.ssa_model.specs.definitions.Record.{gone_from, new_in, placed}
+use Rattle.ssa_model.specs.definitions.Keys.{ManagerKey}
 use Rattle.ssa_model.proofs.Tables.{manager-itself, same_manager-true}
 use Rattle.ssa_model.proofs.Tests.{by_test, filter-kept, filter-dropped}
 use Rattle.ssa_merge.specs.Managers.{key_view, entry_view, table_view}

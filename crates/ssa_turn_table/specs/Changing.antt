@@ -3,10 +3,11 @@ use Rattle.std.specs.List.{cons_option}
 use Rattle.std.specs.Prelude.{◌≡◌, List, [], ◌∷◌, ◌++◌, Bool, true, false, Option, option_map, filter_map, IfSome}
 use Rattle.ssa_model.specs.definitions.Json.{Text}
 use Rattle.ssa_model.specs.definitions.PathMap.{PathSet}
-use Rattle.ssa_model.specs.definitions.Table.{ManagerKey, Entry, Table, same_manager, entry_of, owned_by}
+use Rattle.ssa_model.specs.definitions.Table.{Entry, Table, entry_of, owned_by}
 use Rattle.ssa_model.specs.definitions.Valid.{AllEntries, has_distinct_keys}
 use Rattle.ssa_model.specs.definitions.Record.{Change, change_of, changes}
 use Rattle.ssa_model.specs.definitions.Carry.{changed_entry}
+use Rattle.ssa_model.specs.definitions.Keys.{ManagerKey, same_manager}
 use Rattle.ssa_merge.specs.Managers.{key_view}
 use Rattle.ssa_turn_set.specs.Turn.{HasRoom}
 use Rattle.ssa_turn_table.specs.declared.delta.EntryChange.{EntryChange}

@@ -1,6 +1,7 @@
 -- What is told of those who go and those who come.
 use Rattle.std.specs.Prelude.{◌≡◌, List, [], ◌∷◌, Bool, false}
-use Rattle.ssa_model.specs.definitions.Table.{ManagerKey, Entry, Table, same_manager, is_in_table}
+use Rattle.ssa_model.specs.definitions.Table.{Entry, Table, is_in_table}
+use Rattle.ssa_model.specs.definitions.Keys.{ManagerKey, same_manager}
 use Rattle.ssa_merge.specs.Managers.{key_view}
 use Rattle.ssa_turn_table.specs.declared.delta.Here.{Here}
 

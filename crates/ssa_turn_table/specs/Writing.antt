@@ -1,6 +1,6 @@
 -- What a record of a table is as values.
 use Rattle.std.specs.Prelude.{ℕ, ◌<◌, ◌^◌, List, [], ◌∷◌, Option, Some, None, codes}
-use Rattle.ssa_model.specs.definitions.Entries.{text_json}
+use Rattle.ssa_model.specs.definitions.Values.{text_json}
 use Rattle.ssa_model.specs.definitions.Json.{Text, Members}
 use Rattle.ssa_model.specs.definitions.Objects.{with_member}
 use Rattle.ssa_model.specs.definitions.Table.{Entry}

@@ -3,7 +3,7 @@ ghost use Rattle.std.specs.Prelude.{◌≡◌, ◌++◌, true, OnOk};
 ghost use Rattle.ssa_model.specs.definitions.Json.{compact, compact_members, object};
 ghost use Rattle.ssa_model.specs.definitions.PathMap.{PathSet};
 ghost use Rattle.ssa_model.specs.definitions.RecordText.{change_json, time_members};
-ghost use Rattle.ssa_model.specs.definitions.Replies.{list_json};
+ghost use Rattle.ssa_model.specs.definitions.Values.{list_json};
 ghost use Rattle.ssa_model.specs.definitions.Table.{Table};
 ghost use Rattle.ssa_json.specs.Writable.{IsOfProgram};
 ghost use Rattle.ssa_turn_set.specs.Turn.{HasRoom};

@@ -1,9 +1,9 @@
 //! The members of a table's record as values.
 ghost use Rattle.std.specs.Prelude.{◌≡◌, ◌<◌, ◌^◌, IfOk, OnOk};
-ghost use Rattle.ssa_model.specs.definitions.Entries.{text_json};
+ghost use Rattle.ssa_model.specs.definitions.Values.{text_json, list_json};
 ghost use Rattle.ssa_model.specs.definitions.PathMap.{PathSet};
-ghost use Rattle.ssa_model.specs.definitions.RecordText.{change_json, gone_json, here_json};
-ghost use Rattle.ssa_model.specs.definitions.Replies.{list_json};
+ghost use Rattle.ssa_model.specs.definitions.RecordText.{change_json, here_json};
+ghost use Rattle.ssa_model.specs.definitions.Keys.{key_values};
 ghost use Rattle.ssa_model.specs.definitions.Table.{Table};
 ghost use Rattle.ssa_json.specs.View.{members_view, view};
 ghost use Rattle.ssa_merge.specs.Managers.{key_view};
@@ -78,7 +78,7 @@ fn changes_value(alloc: Global, changed: &[EntryChange]) -> Result<Json, AllocEr
 
 // A manager that is gone.
 fn key_value(alloc: Global, key: &ManagerKey) -> Result<Json, AllocError>
-    ensures { IfOk result (λ v. view v ≡ gone_json (key_view key.now)) }
+    ensures { IfOk result (λ v. view v ≡ key_values (key_view key.now)) }
 {
     let name = Json::of_text(alloc, key.name.as_str())?;
     let operation = Json::of_text(alloc, key.operation.text())?;
@@ -93,7 +93,7 @@ fn key_value(alloc: Global, key: &ManagerKey) -> Result<Json, AllocError>
 
 // The managers that are gone.
 fn keys_value(alloc: Global, gone: &[ManagerKey]) -> Result<Json, AllocError>
-    ensures { IfOk result (λ v. view v ≡ list_json gone_json (keys_view gone.now)) }
+    ensures { IfOk result (λ v. view v ≡ list_json key_values (keys_view gone.now)) }
 {
     let mut values = Vec::with_capacity(alloc, gone.len())?;
     for key in gone {
@@ -139,7 +139,7 @@ impl TableDelta {
 
     /// The managers that are gone, in table order.
     pub fn gone_to_json(&self, alloc: Global) -> Result<Json, AllocError>
-        ensures { IfOk result (λ v. view v ≡ list_json gone_json (table_steps self.now).gone) }
+        ensures { IfOk result (λ v. view v ≡ list_json key_values (table_steps self.now).gone) }
     {
         keys_value(alloc, &self.gone)
     }

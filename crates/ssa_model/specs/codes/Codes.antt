@@ -9,8 +9,9 @@ use Rattle.ssa_model.specs.definitions.Path.{Element, field, key, value, Path}
 use Rattle.ssa_model.specs.definitions.PathMap.{PathMap, PathSet, same_entries_map}
 use Rattle.ssa_model.specs.definitions.Body.{Content, leaf, atom, record_branch, dict_branch, list_branch, Body}
 use Rattle.ssa_model.specs.definitions.Parts.{Subresource, main, status}
-use Rattle.ssa_model.specs.definitions.Table.{Operation, applies, updates, ManagerKey, Entry, Table}
+use Rattle.ssa_model.specs.definitions.Table.{Entry, Table}
 use Rattle.ssa_model.specs.definitions.Operations.{State}
+use Rattle.ssa_model.specs.definitions.Keys.{Operation, applies, updates, ManagerKey}
 
 abbrev pub coded_text : Coded Text
 coded_text = coded_list coded_ℕ

@@ -5,9 +5,10 @@ use Rattle.ssa_model.specs.definitions.Json.{Text}
 use Rattle.ssa_model.specs.definitions.Path.{Element}
 use Rattle.ssa_model.specs.definitions.PathMap.{PathMap, PathSet}
 use Rattle.ssa_model.specs.definitions.Body.{Content, Body}
-use Rattle.ssa_model.specs.definitions.Table.{ManagerKey, Entry}
+use Rattle.ssa_model.specs.definitions.Table.{Entry}
 use Rattle.ssa_model.specs.codes.Codes.{coded_text, coded_element, coded_map, coded_set, coded_content, coded_body, coded_key, coded_entry}
 use Rattle.ssa_model.specs.definitions.Record.{Change, Part, BodyRecord, TableRecord, Record}
+use Rattle.ssa_model.specs.definitions.Keys.{ManagerKey}
 
 abbrev pub coded_change : Coded Change
 coded_change =

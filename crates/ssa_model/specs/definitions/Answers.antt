@@ -8,15 +8,16 @@ use Rattle.ssa_model.specs.definitions.PathMap.{PathSet, has, size}
 use Rattle.ssa_model.specs.definitions.Kind.{Kind, record_of, kind_of, BodyFault, wrong_type, faults}
 use Rattle.ssa_model.specs.definitions.Body.{Body, flat, added, modified, removed}
 use Rattle.ssa_model.specs.definitions.Parts.{Subresource, main, status, Actor}
-use Rattle.ssa_model.specs.definitions.Table.{applies, updates, ManagerKey, key_of, Table}
+use Rattle.ssa_model.specs.definitions.Table.{Table}
 use Rattle.ssa_model.specs.definitions.Operations as operations
 use Rattle.ssa_model.specs.definitions.Operations.{State, Refusal, too_many_paths}
 use Rattle.ssa_model.specs.definitions.Objects.{Identity, value_at, identity_of, is_missing, is_some_object, is_identity, same_identity, body_value, file_value}
 use Rattle.ssa_model.specs.definitions.Readings.{Readings}
-use Rattle.ssa_model.specs.definitions.Commands.{text_in}
+use Rattle.ssa_model.specs.definitions.Keys.{applies, updates, ManagerKey, key_of}
 use Rattle.ssa_model.specs.definitions.Entries.{object_of_state}
 use Rattle.ssa_model.specs.definitions.GivenEntries.{EntryFault, table_of}
 use Rattle.ssa_model.specs.definitions.History.{Label, applied, updated, stripped, Timeline, Bench, present, past_len, future_len, advanced, moved_to, with_timeline, is_manager_name}
+use Rattle.ssa_model.specs.definitions.Values.{text_in}
 
 pub data Fault : Type 0 where
   body_fault : BodyFault → Path → Fault

@@ -9,10 +9,11 @@ use Rattle.ssa_model.specs.definitions.Lines.{whole_lines}
 use Rattle.ssa_model.specs.definitions.BenchText.{Format}
 use Rattle.ssa_model.specs.definitions.Formats.{can_tell_line}
 use Rattle.ssa_model.specs.definitions.Replies.{label_json}
-use Rattle.ssa_model.specs.definitions.RecordReading.{Test, must_have, has_members, is_record_shape}
+use Rattle.ssa_model.specs.definitions.RecordReading.{is_record_shape}
 use Rattle.ssa_model.specs.definitions.BenchOfStates.{spelled_value, said_label, schema_in, is_written_as, is_label}
 use Rattle.ssa_model.specs.definitions.BenchOfRecords.{counts_in, Counts, present_in, move_in}
 use Rattle.ssa_model.specs.definitions.BenchOfFile.{of_records, of_states, FileHead, file_head}
+use Rattle.ssa_model.specs.definitions.Values.{Test, must_have, has_members}
 
 -- ---- why a line is refused
 

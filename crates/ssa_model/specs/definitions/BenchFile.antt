@@ -1,5 +1,5 @@
 -- Valid benches, and which values are read from their texts.
-use Rattle.std.specs.Prelude.{◌≡◌, ◌≤◌, [], true, length, Ok}
+use Rattle.std.specs.Prelude.{◌≡◌, ◌≤◌, true, length, Ok, []}
 use Rattle.std.specs.List.{All}
 use Rattle.ssa_model.specs.definitions.Limits.{most_past}
 use Rattle.ssa_model.specs.definitions.Json.{Json, compact}

@@ -5,10 +5,10 @@ use Rattle.std.specs.Cmp.Lexicographic.{pointwise}
 use Rattle.ssa_model.specs.definitions.Limits.{most_past, most_bench_bytes}
 use Rattle.ssa_model.specs.definitions.Json.{Text, Json, scalar, whole, compact, same_text, member_at}
 use Rattle.ssa_model.specs.definitions.Readings.{Readings}
-use Rattle.ssa_model.specs.definitions.Commands.{text_in, truth_in, value_in, subresource_in}
+use Rattle.ssa_model.specs.definitions.Values.{text_in, truth_in, value_in}
 use Rattle.ssa_model.specs.definitions.Parts.{Actor}
 use Rattle.ssa_model.specs.definitions.Schema.{Schema, read_schema}
-use Rattle.ssa_model.specs.definitions.Table.{Table, same_manager}
+use Rattle.ssa_model.specs.definitions.Table.{Table}
 use Rattle.ssa_model.specs.definitions.Operations.{State}
 use Rattle.ssa_model.specs.definitions.History.{Label, applied, updated, stripped, Step, Bench, is_manager_name, with_timeline}
 use Rattle.ssa_model.specs.definitions.Answers.{bench_of, file_state}
@@ -16,6 +16,7 @@ use Rattle.ssa_model.specs.definitions.Lines.{split_lines}
 use Rattle.ssa_model.specs.definitions.BenchText.{states, head_of, first_json, step_json}
 use Rattle.ssa_model.specs.definitions.Valid.{shared_managers}
 use Rattle.ssa_model.specs.definitions.Formats.{can_tell_label, can_tell_state}
+use Rattle.ssa_model.specs.definitions.Keys.{subresource_in, same_manager}
 
 -- ---- the values of the lines
 

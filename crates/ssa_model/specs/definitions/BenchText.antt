@@ -4,7 +4,8 @@ use Rattle.ssa_model.specs.definitions.Json.{Text, Json, object, no_members, mem
 use Rattle.ssa_model.specs.definitions.Entries.{object_of_state}
 use Rattle.ssa_model.specs.definitions.Operations.{State}
 use Rattle.ssa_model.specs.definitions.History.{Step, Timeline, Bench}
-use Rattle.ssa_model.specs.definitions.Replies.{number_json, label_json}
+use Rattle.ssa_model.specs.definitions.Replies.{label_json}
+use Rattle.ssa_model.specs.definitions.Values.{number_json}
 
 pub data Format : Type 0 where
   -- all states, each as its object

@@ -5,9 +5,10 @@ use Rattle.std.specs.Option.{unwrap_or}
 use Rattle.ssa_model.specs.definitions.Path.{Element, Path, same_path, parent, rest_of, last_element}
 use Rattle.ssa_model.specs.definitions.PathMap.{get, has, paths, map_of, union, minus, has_at_or_above}
 use Rattle.ssa_model.specs.definitions.Body.{Content, leaf, atom, record_branch, dict_branch, list_branch, Body}
-use Rattle.ssa_model.specs.definitions.Table.{ManagerKey, Entry, Table, same_manager}
+use Rattle.ssa_model.specs.definitions.Table.{Entry, Table}
 use Rattle.ssa_model.specs.definitions.Operations.{State}
 use Rattle.ssa_model.specs.definitions.Record.{Change, Part, BodyRecord, TableRecord, Record}
+use Rattle.ssa_model.specs.definitions.Keys.{ManagerKey, same_manager}
 
 -- ---- lists of which some elements stand at given places, and the others in their order
 

@@ -1,9 +1,9 @@
 -- Commands, and which JSON values are commands.
-use Rattle.std.specs.Prelude.{List, [], ◌∷◌, Bool, true, false, not, ◌&&◌, ◌||◌, Option, Some, None, if◌then◌else◌, codes, is_some, option_and_then}
-use Rattle.std.specs.List.{list_any, list_all}
-use Rattle.ssa_model.specs.definitions.Json.{Text, text, truth, Json, scalar, list, object, Members, no_members, member, member_of, same_text, as_text}
-use Rattle.ssa_model.specs.definitions.Schema.{is_text, list_of_texts, has_member}
-use Rattle.ssa_model.specs.definitions.Parts.{Subresource, main, status, Actor}
+use Rattle.std.specs.Prelude.{List, [], ◌∷◌, Bool, Option, Some, None, if◌then◌else◌, codes, option_and_then}
+use Rattle.ssa_model.specs.definitions.Json.{Text, Json, same_text, as_text, member_at}
+use Rattle.ssa_model.specs.definitions.Values.{is_text, MemberShape, Test, is_list_of_texts, has_members, is_anything, is_truth, may_have, member_in, must_have, text_at, texts_in, truth_in}
+use Rattle.ssa_model.specs.definitions.Parts.{Actor}
+use Rattle.ssa_model.specs.definitions.Keys.{is_subresource, subresource_in}
 
 -- A command as it is given, its moment and its path not yet read.
 pub data Command : Type 0 where
@@ -22,79 +22,35 @@ pub data Command : Type 0 where
 
 -- ---- the shape of commands
 
-pub data MemberType : Type 0 where
-  text_member : MemberType
-  truth_member : MemberType
-  texts_member : MemberType
-  -- the name of a subresource
-  part_member : MemberType
-  any_member : MemberType
-
-abbrev pub is_truth : Json → Bool
-is_truth (scalar (truth b)) = true
-is_truth _ = false
-
-abbrev pub is_subresource : Json → Bool
-is_subresource (scalar (text t)) = same_text t (codes "status")
-is_subresource _ = false
-
-abbrev pub is_of_type : MemberType → Json → Bool
-is_of_type text_member v = is_text v
-is_of_type truth_member v = is_truth v
-is_of_type texts_member v = is_some (list_of_texts v)
-is_of_type part_member v = is_subresource v
-is_of_type any_member v = true
-
-pub record MemberRule : Type 0 where
-  pub name : Text
-  pub type : MemberType
-  pub required : Bool
-
 -- a command's word in `do`, and its other members
 pub record CommandRule : Type 0 where
   pub word : Text
-  pub members : List MemberRule
+  pub members : List MemberShape
 
-abbrev pub needs : Text → MemberType → MemberRule
-needs n t = record { name = n; type = t; required = true }
+abbrev pub follows_rule : CommandRule → Test
+follows_rule rule = has_members (must_have (codes "do") is_text ∷ rule.members)
 
-abbrev pub may_have : Text → MemberType → MemberRule
-may_have n t = record { name = n; type = t; required = false }
-
--- the member is the command's word, or one of its other members
-abbrev pub is_known_member : List MemberRule → Text → Json → Bool
-is_known_member rules n v = same_text n (codes "do") || list_any (λ r. same_text n r.name && is_of_type r.type v) rules
-
-abbrev pub are_known_members : List MemberRule → Members → Bool
-are_known_members rules no_members = true
-are_known_members rules (member n v ms) = is_known_member rules n v && are_known_members rules ms
-
-abbrev pub follows_rule : Members → CommandRule → Bool
-follows_rule ms rule = are_known_members rule.members ms && list_all (λ r. not r.required || has_member r.name ms) rule.members
-
-abbrev pub word_of : Members → Option Text
-word_of ms = option_and_then as_text (member_of (codes "do") ms)
+-- the members of a command that brings an object
+abbrev pub object_members : List MemberShape
+object_members =
+    must_have (codes "at") is_text ∷ must_have (codes "manager") is_text ∷ must_have (codes "object") is_anything
+    ∷ may_have (codes "subresource") is_subresource ∷ []
 
 -- the commands of a session
 abbrev pub session_rules : List CommandRule
 session_rules =
-    record {
-      word = codes "apply";
-      members = needs (codes "at") text_member ∷ needs (codes "manager") text_member ∷ needs (codes "object") any_member
-          ∷ may_have (codes "force") truth_member ∷ may_have (codes "subresource") part_member ∷ [];
-    }
-    ∷ record {
-      word = codes "update";
-      members = needs (codes "at") text_member ∷ needs (codes "manager") text_member ∷ needs (codes "object") any_member
-          ∷ may_have (codes "subresource") part_member ∷ [];
-    }
+    record { word = codes "apply"; members = may_have (codes "force") is_truth ∷ object_members }
+    ∷ record { word = codes "update"; members = object_members }
     ∷ record { word = codes "strip"; members = [] }
     ∷ record { word = codes "undo"; members = [] }
     ∷ record { word = codes "redo"; members = [] }
-    ∷ record { word = codes "show"; members = may_have (codes "managed") truth_member ∷ [] }
-    ∷ record { word = codes "owners"; members = needs (codes "path") texts_member ∷ [] }
+    ∷ record { word = codes "show"; members = may_have (codes "managed") is_truth ∷ [] }
+    ∷ record { word = codes "owners"; members = must_have (codes "path") is_list_of_texts ∷ [] }
     ∷ record { word = codes "log"; members = [] }
     ∷ []
+
+abbrev pub word_of : Json → Option Text
+word_of v = option_and_then as_text (member_at (codes "do") v)
 
 -- the first of the rules that has the word
 abbrev pub rule_among : List CommandRule → Text → Option CommandRule
@@ -107,53 +63,26 @@ rule_of = rule_among session_rules
 
 -- ---- reading a command
 
-abbrev pub text_in : Option Json → Text
-text_in (Some (scalar (text t))) = t
-text_in _ = []
+-- the manager that a value names, and the subresource
+abbrev pub actor_in : Json → Actor
+actor_in v = record { name = text_at (codes "manager") v; part = subresource_in (member_at (codes "subresource") v) }
 
-abbrev pub truth_in : Option Json → Bool
-truth_in (Some (scalar (truth b))) = b
-truth_in _ = false
-
-abbrev pub value_in : Option Json → Json
-value_in (Some v) = v
-value_in None = object no_members
-
-abbrev pub subresource_in : Option Json → Subresource
-subresource_in None = main
-subresource_in (Some v) = status
-
--- the manager that members name, and the subresource
-abbrev pub actor_in : Members → Actor
-actor_in ms = record { name = text_in (member_of (codes "manager") ms); part = subresource_in (member_of (codes "subresource") ms) }
-
-abbrev pub texts_in : Option Json → List Text
-texts_in (Some v) = elim (list_of_texts v) [ None ↦ [] | Some ts ↦ ts ]
-texts_in None = []
-
--- the command of a word and members that follow its rule
-abbrev pub command_with : Text → Members → Command
-command_with word ms =
-    if same_text word (codes "apply") then apply (actor_in ms) (truth_in (member_of (codes "force") ms))
-    (text_in (member_of (codes "at") ms)) (value_in (member_of (codes "object") ms))
-    else (if same_text word (codes "update") then update (actor_in ms) (text_in (member_of (codes "at") ms))
-    (value_in (member_of (codes "object") ms))
+-- the command of a word and a value that follows its rule
+abbrev pub command_with : Text → Json → Command
+command_with word v =
+    if same_text word (codes "apply") then apply (actor_in v) (truth_in (member_at (codes "force") v)) (text_at (codes "at") v) (member_in (codes "object") v)
+    else (if same_text word (codes "update") then update (actor_in v) (text_at (codes "at") v) (member_in (codes "object") v)
     else (if same_text word (codes "strip") then strip
     else (if same_text word (codes "undo") then undo
     else (if same_text word (codes "redo") then redo
-    else (if same_text word (codes "show") then show (truth_in (member_of (codes "managed") ms))
-    else (if same_text word (codes "owners") then owners (texts_in (member_of (codes "path") ms))
+    else (if same_text word (codes "show") then show (truth_in (member_at (codes "managed") v))
+    else (if same_text word (codes "owners") then owners (texts_in (member_at (codes "path") v))
     else log))))))
 
 -- the command that a value is
 abbrev pub command_of : Json → Option Command
-command_of (object ms) =
-    elim (word_of ms) [
-      | None ↦ None
-      | Some word ↦ (elim (rule_of word) [ None ↦ None | Some rule ↦ (if follows_rule ms rule then Some (command_with word ms) else None) ])
-    ]
-command_of (list vs) = None
-command_of (scalar s) = None
+command_of v =
+    option_and_then (λ rule. if follows_rule rule v then Some (command_with rule.word v) else None) (option_and_then rule_of (word_of v))
 
 -- the moment that a command gives
 abbrev pub moment_of : Command → Option Text

@@ -3,7 +3,7 @@ use Rattle.std.specs.Prelude.{◌≡◌, ◌≤◌, ℕ, ◌+◌, List, [], ◌�
 use Rattle.ssa_model.specs.definitions.Json.{Text}
 use Rattle.ssa_model.specs.definitions.Body.{Body}
 use Rattle.ssa_model.specs.definitions.Parts.{Actor}
-use Rattle.ssa_model.specs.definitions.Table.{applies, updates, key_of}
+use Rattle.ssa_model.specs.definitions.Keys.{applies, updates, key_of}
 use Rattle.ssa_model.specs.definitions.Operations as operations
 use Rattle.ssa_model.specs.definitions.Operations.{State, Refusal}
 use Rattle.ssa_model.specs.definitions.History.{Label, applied, updated, stripped, Step, Timeline, Bench, present}

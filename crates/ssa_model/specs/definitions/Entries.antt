@@ -1,33 +1,20 @@
 -- The entries of `managedFields`, and the object of a whole state.
 use Rattle.ssa_model.specs.definitions.FieldsV1.{fields_json, nothing_written}
 use Rattle.std.specs.Prelude.{[], ◌∷◌, Bool, Option, Some, None, if◌then◌else◌, codes}
-use Rattle.ssa_model.specs.definitions.Json.{Text, text, Json, scalar, list, object, Items, no_items, item, Members, no_members, member}
+use Rattle.ssa_model.specs.definitions.Json.{Json, list, object, Items, no_items, item, no_members, member}
 use Rattle.ssa_model.specs.definitions.Kind.{Kind}
-use Rattle.ssa_model.specs.definitions.Parts.{Subresource, main, status}
-use Rattle.ssa_model.specs.definitions.Table.{Operation, applies, updates, Entry, Table}
+use Rattle.ssa_model.specs.definitions.Table.{Entry, Table}
 use Rattle.ssa_model.specs.definitions.Operations.{State}
 use Rattle.ssa_model.specs.definitions.Objects.{Identity, object_of_body, value_at, with_member, members_in}
-
-abbrev pub operation_text : Operation → Text
-operation_text applies = codes "Apply"
-operation_text updates = codes "Update"
-
-abbrev pub text_json : Text → Json
-text_json t = scalar (text t)
-
--- a part is written where it is that of a subresource
-abbrev pub part_members : Subresource → Members → Members
-part_members main ms = ms
-part_members status ms = member (codes "subresource") (text_json (codes "status")) ms
+use Rattle.ssa_model.specs.definitions.Values.{text_json}
+use Rattle.ssa_model.specs.definitions.Keys.{with_key}
 
 abbrev pub entry_json : Json → Entry → Json
 entry_json version e =
     object (member (codes "apiVersion") version
     (member (codes "fieldsType") (text_json (codes "FieldsV1"))
     (member (codes "fieldsV1") (fields_json e.owned)
-    (member (codes "manager") (text_json e.manager.name)
-    (member (codes "operation") (text_json (operation_text e.manager.operation))
-    (part_members e.manager.part (member (codes "time") (text_json e.moment) no_members)))))))
+    (with_key e.manager (member (codes "time") (text_json e.moment) no_members)))))
 
 abbrev pub entry_items : Json → Table → Items
 entry_items version [] = no_items

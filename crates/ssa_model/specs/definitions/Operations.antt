@@ -6,7 +6,8 @@ use Rattle.ssa_model.specs.definitions.Path.{is_root, is_key_field}
 use Rattle.ssa_model.specs.definitions.PathMap.{PathSet, has, paths, size, set_of, union, minus, is_empty, has_at_or_below, has_at_or_above}
 use Rattle.ssa_model.specs.definitions.Body.{Body, points, over, restricted, added, modified, removed}
 use Rattle.ssa_model.specs.definitions.Parts.{is_path_of, part_of, spliced}
-use Rattle.ssa_model.specs.definitions.Table.{ManagerKey, Entry, Table, owned_by, owned_by_others, same_manager, seat}
+use Rattle.ssa_model.specs.definitions.Table.{Entry, Table, owned_by, owned_by_others, seat}
+use Rattle.ssa_model.specs.definitions.Keys.{ManagerKey, same_manager}
 
 pub record State : Type 0 where
   pub body : Body

@@ -8,8 +8,9 @@ use Rattle.ssa_model.specs.definitions.Path.{Element, Path, same_element, parent
 use Rattle.ssa_model.specs.definitions.PathMap.{PathMap, PathSet, get, has, paths, map_of, set_of, below, minus, same_set}
 use Rattle.ssa_model.specs.definitions.Kind.{is_among}
 use Rattle.ssa_model.specs.definitions.Body.{Content, list_branch, Body, is_other_leaf, order_at}
-use Rattle.ssa_model.specs.definitions.Table.{ManagerKey, Entry, Table, is_in_table, entry_of}
+use Rattle.ssa_model.specs.definitions.Table.{Entry, Table, is_in_table, entry_of}
 use Rattle.ssa_model.specs.definitions.Operations.{State}
+use Rattle.ssa_model.specs.definitions.Keys.{ManagerKey}
 
 -- a manager of both states: the paths that it gains and loses, and its moment afterwards where it is another
 pub record Change : Type 0 where

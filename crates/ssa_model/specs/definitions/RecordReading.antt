@@ -1,125 +1,25 @@
 -- A record is read from its JSON value: which values have its shape, and what a value of that shape says.
-use Rattle.std.specs.Prelude.{◌≡◌, ℕ, zero, suc, pos, List, [], ◌∷◌, Bool, true, false, not, ◌&&◌, ◌||◌, Option, Some, None, is_some, is_ok, option_and_then, Ok, Err, codes}
-use Rattle.std.specs.List.{list_any, list_all}
-use Rattle.ssa_model.specs.definitions.Json.{Text, same_text, whole, Json, scalar, list, object, Items, no_items, item, Members, no_members, member, member_at, as_text}
+use Rattle.std.specs.Prelude.{◌≡◌, ℕ, List, [], ◌∷◌, ◌++◌, Bool, true, false, ◌||◌, Option, Some, None, is_ok, option_and_then, Ok, Err, codes}
+use Rattle.std.specs.List.{list_all}
+use Rattle.ssa_model.specs.definitions.Json.{Text, Json, scalar, member_at, as_text}
 use Rattle.ssa_model.specs.definitions.Path.{Element, Path, element_text}
 use Rattle.ssa_model.specs.definitions.PathMap.{PathSet, has, empty, from_entries, listed, paths}
 use Rattle.ssa_model.specs.definitions.Kind.{Kind, atomic_of}
-use Rattle.ssa_model.specs.definitions.Schema.{is_text, list_of_texts, has_member}
+use Rattle.ssa_model.specs.definitions.Values.{number_of, is_text, list_of_texts, texts_in, value_in, MemberShape, Test, has_items, has_members, is_anything, is_list_of, is_whole, item_at, list_in, may_have, member_in, must_have}
 use Rattle.ssa_model.specs.definitions.Body.{Content, leaf, atom, record_branch, Body, places, field_places}
-use Rattle.ssa_model.specs.definitions.Table.{Operation, applies, ManagerKey, Entry}
+use Rattle.ssa_model.specs.definitions.Table.{Entry}
 use Rattle.ssa_model.specs.definitions.Operations.{State}
 use Rattle.ssa_model.specs.definitions.Objects.{members_of_value}
 use Rattle.ssa_model.specs.definitions.Readings.{Readings}
 use Rattle.ssa_model.specs.definitions.ElementTexts.{element_of, path_of}
 use Rattle.ssa_model.specs.definitions.FieldsV1.{fields_faults, said_set}
-use Rattle.ssa_model.specs.definitions.Commands.{text_in, texts_in, value_in, is_subresource, subresource_in}
-use Rattle.ssa_model.specs.definitions.GivenEntries.{operation_of, said_entry}
+use Rattle.ssa_model.specs.definitions.GivenEntries.{said_entry, entry_shape}
 use Rattle.ssa_model.specs.definitions.Fitting.{Place, of_kind, item_of, value_of, place_at}
 use Rattle.ssa_model.specs.definitions.Valid.{AllEntries}
 use Rattle.ssa_model.specs.definitions.Record.{Change, Part, Record}
+use Rattle.ssa_model.specs.definitions.Keys.{is_key, key_at, key_in, key_shape}
 
--- ---- shapes
-
--- a test of a value
-abbrev pub Test : Type 0
-Test = Json → Bool
-
-abbrev pub all_items : Test → Items → Bool
-all_items test no_items = true
-all_items test (item v vs) = test v && all_items test vs
-
--- a list of values that pass
-abbrev pub is_list_of : Test → Test
-is_list_of test (list vs) = all_items test vs
-is_list_of test _ = false
-
-abbrev pub items_pass : List Test → Items → Bool
-items_pass [] no_items = true
-items_pass (t ∷ ts) (item v vs) = t v && items_pass ts vs
-items_pass _ _ = false
-
--- a list of exactly so many values, each of which passes its test
-abbrev pub has_items : List Test → Test
-has_items ts (list vs) = items_pass ts vs
-has_items ts _ = false
-
--- a member that an object has or may have, and the test of its value
-pub record MemberShape : Type 0 where
-  pub name : Text
-  pub test : Test
-  pub required : Bool
-
-abbrev pub must_have : Text → Test → MemberShape
-must_have n t = record { name = n; test = t; required = true }
-
-abbrev pub may_have : Text → Test → MemberShape
-may_have n t = record { name = n; test = t; required = false }
-
-abbrev pub are_members_of : List MemberShape → Members → Bool
-are_members_of shapes no_members = true
-are_members_of shapes (member n v ms) = list_any (λ s. same_text n s.name && s.test v) shapes && are_members_of shapes ms
-
--- an object with these members and no others
-abbrev pub has_members : List MemberShape → Test
-has_members shapes (object ms) = are_members_of shapes ms && list_all (λ s. not s.required || has_member s.name ms) shapes
-has_members shapes _ = false
-
-abbrev pub is_anything : Test
-is_anything v = true
-
-abbrev pub is_whole : Test
-is_whole (scalar (whole z)) = true
-is_whole _ = false
-
-abbrev pub is_operation : Test
-is_operation v = is_some (option_and_then operation_of (as_text v))
-
--- a manager, as its name and its operation, and its subresource where it has one
-abbrev pub is_key : Test
-is_key v = has_items (is_text ∷ is_operation ∷ []) v || has_items (is_text ∷ is_operation ∷ is_subresource ∷ []) v
-
--- ---- what a value says, whatever its shape
-
--- the items of a list, each told by the function
-abbrev pub items_in : {X : Type 0} → (Json → X) → Items → List X
-items_in f no_items = []
-items_in f (item v vs) = f v ∷ items_in f vs
-
-abbrev pub list_in : {X : Type 0} → (Json → X) → Json → List X
-list_in f (list vs) = items_in f vs
-list_in f _ = []
-
-abbrev pub item_in : ℕ → Items → Option Json
-item_in i no_items = None
-item_in zero (item v vs) = Some v
-item_in (suc i) (item v vs) = item_in i vs
-
--- the item of a list at this place, from 0
-abbrev pub item_at : ℕ → Json → Option Json
-item_at i (list vs) = item_in i vs
-item_at i _ = None
-
-abbrev pub member_in : Text → Json → Json
-member_in n v = value_in (member_at n v)
-
-abbrev pub text_at : Text → Json → Text
-text_at n v = text_in (member_at n v)
-
--- a whole number that counts; anything else is 0
-abbrev pub number_of : Json → ℕ
-number_of (scalar (whole (pos n))) = n
-number_of _ = 0
-
-abbrev pub operation_or_applies : Option Operation → Operation
-operation_or_applies (Some o) = o
-operation_or_applies None = applies
-
-abbrev pub operation_at : Option Json → Operation
-operation_at v = operation_or_applies (operation_of (text_in v))
-
-abbrev pub key_in : Json → ManagerKey
-key_in v = record { name = text_in (item_at 0 v); operation = operation_at (item_at 1 v); part = subresource_in (item_at 2 v) }
+-- ---- bodies, places of the schema
 
 -- the content of a leaf at a place
 abbrev pub content_in : Option Place → Json → Content
@@ -166,19 +66,14 @@ module _ (readings : Readings) where
   is_moment v = is_moment_text (as_text v)
 
   abbrev pub change_shape : List MemberShape
-  change_shape =
-      must_have (codes "gain") is_fields ∷ must_have (codes "lose") is_fields ∷ must_have (codes "manager") is_text
-      ∷ must_have (codes "operation") is_operation ∷ may_have (codes "subresource") is_subresource ∷ may_have (codes "time") is_moment ∷ []
+  change_shape = must_have (codes "gain") is_fields ∷ must_have (codes "lose") is_fields ∷ key_shape ++ may_have (codes "time") is_moment ∷ []
 
   -- an entry of `managedFields`; that its `apiVersion`, its `fieldsType` and its name are those of an entry of the state is no matter of shape
-  abbrev pub entry_shape : List MemberShape
-  entry_shape =
-      must_have (codes "apiVersion") is_text ∷ must_have (codes "fieldsType") is_text ∷ must_have (codes "fieldsV1") is_fields
-      ∷ must_have (codes "manager") is_text ∷ must_have (codes "operation") is_operation ∷ may_have (codes "subresource") is_subresource
-      ∷ must_have (codes "time") is_moment ∷ []
+  abbrev pub here_entry : Test
+  here_entry = has_members (entry_shape is_text is_fields is_moment)
 
   abbrev pub here_shape : List MemberShape
-  here_shape = must_have (codes "entry") (has_members entry_shape) ∷ must_have (codes "place") is_whole ∷ []
+  here_shape = must_have (codes "entry") here_entry ∷ must_have (codes "place") is_whole ∷ []
 
   -- a path and a value, and any whole number where a third item is there
   abbrev pub is_put : Test
@@ -202,18 +97,14 @@ module _ (readings : Readings) where
 
   abbrev pub change_in : Json → Change
   change_in v = record {
-    manager = record {
-      name = text_at (codes "manager") v;
-      operation = operation_at (member_at (codes "operation") v);
-      part = subresource_in (member_at (codes "subresource") v);
-    };
+    manager = key_at v;
     gain = said_set readings.value (member_in (codes "gain") v);
     lose = said_set readings.value (member_in (codes "lose") v);
     moment = option_and_then as_text (member_at (codes "time") v);
   }
 
   abbrev pub here_in : Json → ℕ × Entry
-  here_in v = (number_of (member_in (codes "place") v), said_entry readings (members_of_value (member_in (codes "entry") v)))
+  here_in v = (number_of (member_in (codes "place") v), said_entry readings (member_in (codes "entry") v))
 
   abbrev pub order_in : Json → Path × List Element
   order_in v = (path_in (item_at 0 v), path_in (item_at 1 v))

@@ -1,18 +1,19 @@
 -- A record as a JSON value: its members are always all there.
-use Rattle.std.specs.Prelude.{ℕ, List, [], codes, Option, Some, None}
+use Rattle.std.specs.Prelude.{ℕ, List, codes, Option, Some, None, []}
 use Rattle.ssa_model.specs.definitions.Json.{Text, Json, list, object, Items, no_items, item, Members, no_members, member}
 use Rattle.ssa_model.specs.definitions.Path.{Element, Path, element_text}
 use Rattle.ssa_model.specs.definitions.PathMap.{get}
 use Rattle.ssa_model.specs.definitions.Kind.{Kind}
 use Rattle.ssa_model.specs.definitions.Body.{Content, Body}
-use Rattle.ssa_model.specs.definitions.Parts.{Subresource, main, status}
-use Rattle.ssa_model.specs.definitions.Table.{ManagerKey, Entry}
+use Rattle.ssa_model.specs.definitions.Table.{Entry}
 use Rattle.ssa_model.specs.definitions.Objects.{content_value, shown, shown_fields}
 use Rattle.ssa_model.specs.definitions.FieldsV1.{fields_json}
-use Rattle.ssa_model.specs.definitions.Entries.{operation_text, text_json, part_members, entry_json}
-use Rattle.ssa_model.specs.definitions.Replies.{number_json, list_json, path_json, paths_json}
+use Rattle.ssa_model.specs.definitions.Entries.{entry_json}
+use Rattle.ssa_model.specs.definitions.Replies.{path_json, paths_json}
 use Rattle.ssa_model.specs.definitions.Fitting.{Place, of_kind, item_of, value_of, place_at}
 use Rattle.ssa_model.specs.definitions.Record.{Change, Part, Record}
+use Rattle.ssa_model.specs.definitions.Values.{text_json, number_json, list_json}
+use Rattle.ssa_model.specs.definitions.Keys.{key_values, with_key}
 
 -- ---- what is put
 
@@ -44,16 +45,7 @@ time_members (Some at) = member (codes "time") (text_json at) no_members
 abbrev pub change_json : Change → Json
 change_json c =
     object (member (codes "gain") (fields_json c.gain)
-    (member (codes "lose") (fields_json c.lose)
-    (member (codes "manager") (text_json c.manager.name)
-    (member (codes "operation") (text_json (operation_text c.manager.operation)) (part_members c.manager.part (time_members c.moment))))))
-
-abbrev pub part_items : Subresource → Items
-part_items main = no_items
-part_items status = item (text_json (codes "status")) no_items
-
-abbrev pub gone_json : ManagerKey → Json
-gone_json k = list (item (text_json k.name) (item (text_json (operation_text k.operation)) (part_items k.part)))
+    (member (codes "lose") (fields_json c.lose) (with_key c.manager (time_members c.moment))))
 
 -- the entry is written as one of `managedFields`
 abbrev pub here_json : Json → ℕ × Entry → Json
@@ -70,7 +62,7 @@ abbrev pub record_json : Json → Kind → Record → Json
 record_json version kind d =
     object (member (codes "changed") (list_json change_json d.table.changed)
     (member (codes "cut") (paths_json d.body.cut)
-    (member (codes "gone") (list_json gone_json d.table.gone)
+    (member (codes "gone") (list_json key_values d.table.gone)
     (member (codes "here") (list_json (here_json version) d.table.here)
     (member (codes "leaves") (list_json leaf_json d.body.leaves.entries)
     (member (codes "order") (list_json order_json d.body.order.entries)

@@ -7,11 +7,12 @@ use Rattle.ssa_model.specs.definitions.Readings.{Readings}
 use Rattle.ssa_model.specs.definitions.Entries.{version_in}
 use Rattle.ssa_model.specs.definitions.Operations.{State}
 use Rattle.ssa_model.specs.definitions.History.{Label, Step, Timeline, Bench, present, past_len, future_len}
-use Rattle.ssa_model.specs.definitions.Replies.{number_json, label_json}
+use Rattle.ssa_model.specs.definitions.Replies.{label_json}
 use Rattle.ssa_model.specs.definitions.BenchText.{Format, states, records, parts, depths, format_number, line, whole_object}
 use Rattle.ssa_model.specs.definitions.Record.{record_of}
 use Rattle.ssa_model.specs.definitions.RecordText.{record_json}
 use Rattle.ssa_model.specs.definitions.RecordReading.{HasReadPaths}
+use Rattle.ssa_model.specs.definitions.Values.{number_json}
 
 -- ---- the lines
 

@@ -1,25 +1,15 @@
 -- Replies as JSON values.
-use Rattle.std.specs.Prelude.{ℕ, List, [], ◌∷◌, codes, pos}
-use Rattle.ssa_model.specs.definitions.Json.{Text, whole, truth, Json, scalar, list, object, Items, no_items, item, Members, no_members, member, compact}
+use Rattle.std.specs.Prelude.{ℕ, codes}
+use Rattle.ssa_model.specs.definitions.Json.{Text, truth, Json, scalar, object, Members, no_members, member, compact}
 use Rattle.ssa_model.specs.definitions.Path.{Path, element_text}
 use Rattle.ssa_model.specs.definitions.PathMap.{PathSet, paths}
-use Rattle.ssa_model.specs.definitions.Table.{ManagerKey}
+use Rattle.ssa_model.specs.definitions.Keys.{part_members, key_json, with_key}
 use Rattle.ssa_model.specs.definitions.Operations.{Clash, Refusal, conflict}
-use Rattle.ssa_model.specs.definitions.Entries.{operation_text, text_json, part_members}
+use Rattle.ssa_model.specs.definitions.Values.{text_json, list_json, number_json}
 use Rattle.ssa_model.specs.definitions.History.{Label, applied, updated, stripped}
 use Rattle.ssa_model.specs.definitions.GivenEntries.{EntryFault, absent_path}
 use Rattle.ssa_model.specs.definitions.Answers.{Fault, body_fault, entry_fault, refused, Reply, changed, moved, shown, owned_by, logged, fault, Changed}
 use Rattle.ssa_model.specs.definitions.Faults.{Code, number_of, name_of, body_fault_code, refusal_code, entry_fault_code, fault_code}
-
-abbrev pub number_json : ℕ → Json
-number_json n = scalar (whole (pos n))
-
-abbrev pub items_json : {X : Type 0} → (X → Json) → List X → Items
-items_json f [] = no_items
-items_json f (x ∷ xs) = item (f x) (items_json f xs)
-
-abbrev pub list_json : {X : Type 0} → (X → Json) → List X → Json
-list_json f xs = list (items_json f xs)
 
 -- a path is the list of its elements' texts
 abbrev pub path_json : Path → Json
@@ -27,11 +17,6 @@ path_json p = list_json (λ e. text_json (element_text e)) p
 
 abbrev pub paths_json : PathSet → Json
 paths_json s = list_json path_json (paths s)
-
-abbrev pub key_json : ManagerKey → Json
-key_json k =
-    object (member (codes "manager") (text_json k.name)
-    (member (codes "operation") (text_json (operation_text k.operation)) (part_members k.part no_members)))
 
 -- ---- faults
 
@@ -45,10 +30,7 @@ abbrev pub fault_json_at : Code → Path → Json
 fault_json_at c p = object (with_fault c (member (codes "path") (path_json p) no_members))
 
 abbrev pub clash_json : Clash → Json
-clash_json c =
-    object (member (codes "fields") (paths_json c.fields)
-    (member (codes "manager") (text_json c.manager.name)
-    (member (codes "operation") (text_json (operation_text c.manager.operation)) (part_members c.manager.part no_members))))
+clash_json c = object (member (codes "fields") (paths_json c.fields) (with_key c.manager no_members))
 
 abbrev pub refusal_json : Refusal → Json
 refusal_json (conflict cs) = object (member (codes "conflicts") (list_json clash_json cs) (with_fault (refusal_code (conflict cs)) no_members))

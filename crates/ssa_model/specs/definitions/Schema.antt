@@ -1,12 +1,13 @@
 -- Reading a schema: its kind, or its first fault.
-use Rattle.std.specs.Prelude.{ℕ, zero, suc, List, [], ◌∷◌, ◌++◌, Bool, true, false, not, ◌&&◌, ◌||◌, Option, Some, None, option_and_then, option_map, is_some, Result, Ok, Err, if◌then◌else◌, codes}
+use Rattle.std.specs.Prelude.{ℕ, zero, suc, List, [], ◌∷◌, ◌++◌, Bool, true, false, not, ◌&&◌, ◌||◌, Option, Some, None, option_and_then, Result, Ok, Err, if◌then◌else◌, codes}
 use Rattle.std.specs.declared.cmp.Ordering.TheVariants.{Less, Equal, Greater}
 use Rattle.std.specs.Ordering.{nat_cmp}
 use Rattle.std.specs.List.{list_any, list_all}
 use Rattle.std.specs.Cmp.Lexicographic.{slice_cmp}
 use Rattle.ssa_model.specs.definitions.Limits.{most_levels}
-use Rattle.ssa_model.specs.definitions.Json.{Text, Json, scalar, list, object, Items, no_items, item, Members, no_members, member, member_of, same_text, as_text, is_object}
+use Rattle.ssa_model.specs.definitions.Json.{Text, Json, scalar, list, object, Members, no_members, member, member_of, same_text, as_text, is_object}
 use Rattle.ssa_model.specs.definitions.Kind.{ScalarKind, texts, wholes, truths, Shape, scalar_shape, record_shape, dict_shape, list_shape, ShapeFields, no_shape_fields, shape_field, Kind, scalar_kind, atomic_of, record_of, dict_of, set_of, items_of, Fields, no_fields, kind_field}
+use Rattle.ssa_model.specs.definitions.Values.{has_member, is_text, list_of_texts}
 
 pub data SchemaFault : Type 0 where
   schema_keyword : SchemaFault
@@ -47,9 +48,6 @@ metadata_fields =
 abbrev pub is_one_of_texts : Text → List Text → Bool
 is_one_of_texts t ts = list_any (same_text t) ts
 
-abbrev pub has_member : Text → Members → Bool
-has_member n ms = is_some (member_of n ms)
-
 -- the member is the text
 abbrev pub member_is : Text → Text → Members → Bool
 member_is n t ms = elim (option_and_then as_text (member_of n ms)) [ None ↦ false | Some u ↦ same_text t u ]
@@ -59,24 +57,12 @@ abbrev pub if_given : (Json → Bool) → Option Json → Bool
 if_given test None = true
 if_given test (Some v) = test v
 
-abbrev pub is_text : Json → Bool
-is_text v = is_some (as_text v)
-
 abbrev pub is_text_among : List Text → Json → Bool
 is_text_among ts v = elim (as_text v) [ None ↦ false | Some t ↦ is_one_of_texts t ts ]
 
 abbrev pub names : Members → List Text
 names no_members = []
 names (member n v ms) = n ∷ names ms
-
--- the texts of a list of texts
-abbrev pub texts_of : Items → Option (List Text)
-texts_of no_items = Some []
-texts_of (item v vs) = option_and_then (λ t. option_map (λ ts. t ∷ ts) (texts_of vs)) (as_text v)
-
-abbrev pub list_of_texts : Json → Option (List Text)
-list_of_texts (list vs) = texts_of vs
-list_of_texts _ = None
 
 abbrev pub are_distinct_texts : List Text → Bool
 are_distinct_texts [] = true

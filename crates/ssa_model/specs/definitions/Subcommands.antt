@@ -3,7 +3,7 @@
 use Rattle.std.specs.Prelude.{◌-◌, Bool, true, false, Some, None, Result, Ok, Err, if◌then◌else◌, nat_lt, length, codes}
 use Rattle.ssa_model.specs.definitions.Limits.{most_input_bytes}
 use Rattle.ssa_model.specs.definitions.Json.{Text, Json, object, no_members, member, compact}
-use Rattle.ssa_model.specs.definitions.Schema.{list_of_texts}
+use Rattle.ssa_model.specs.definitions.Values.{list_of_texts, number_json, text_json}
 use Rattle.ssa_model.specs.definitions.PathMap.{size}
 use Rattle.ssa_model.specs.definitions.Parts.{Actor}
 use Rattle.ssa_model.specs.definitions.Readings.{Readings}
@@ -13,9 +13,8 @@ use Rattle.ssa_model.specs.definitions.Answers as answers
 use Rattle.ssa_model.specs.definitions.Answers.{Command, Reply, answer}
 use Rattle.ssa_model.specs.definitions.Faults as code
 use Rattle.ssa_model.specs.definitions.Faults.{Code}
-use Rattle.ssa_model.specs.definitions.Replies.{fault_json, number_json, reply_text}
+use Rattle.ssa_model.specs.definitions.Replies.{fault_json, reply_text}
 use Rattle.ssa_model.specs.definitions.Session.{LineFault, line_fault_code, unread, bad_moment, command_shape, has_moment, with_path}
-use Rattle.ssa_model.specs.definitions.Entries.{text_json}
 
 -- A subcommand on a bench, with the bytes of the file that it names.
 pub data Asked : Type 0 where

@@ -1,21 +1,9 @@
 -- The table of managers: who owns which paths, and since when.
-use Rattle.std.specs.Prelude.{List, [], ◌∷◌, ◌++◌, Bool, true, false, not, ◌&&◌, ◌||◌, map, filter, Option, Some, None, if◌then◌else◌}
+use Rattle.std.specs.Prelude.{List, [], ◌∷◌, ◌++◌, Bool, not, ◌&&◌, ◌||◌, map, filter, Option, Some, None, if◌then◌else◌}
 use Rattle.std.specs.List.{list_any}
-use Rattle.ssa_model.specs.definitions.Json.{Text, same_text}
+use Rattle.ssa_model.specs.definitions.Json.{Text}
 use Rattle.ssa_model.specs.definitions.PathMap.{PathSet, empty, is_empty, union, minus, same_set}
-use Rattle.ssa_model.specs.definitions.Parts.{Subresource, same_part, Actor}
-
-pub data Operation : Type 0 where
-  applies : Operation
-  updates : Operation
-
-pub record ManagerKey : Type 0 where
-  pub name : Text
-  pub operation : Operation
-  pub part : Subresource
-
-abbrev pub key_of : Operation → Actor → ManagerKey
-key_of o who = record { name = who.name; operation = o; part = who.part }
+use Rattle.ssa_model.specs.definitions.Keys.{ManagerKey, same_manager}
 
 -- a manager, the paths that it owns, and its moment
 pub record Entry : Type 0 where
@@ -25,14 +13,6 @@ pub record Entry : Type 0 where
 
 abbrev pub Table : Type 0
 Table = List Entry
-
-abbrev pub same_operation : Operation → Operation → Bool
-same_operation applies applies = true
-same_operation updates updates = true
-same_operation _ _ = false
-
-abbrev pub same_manager : ManagerKey → ManagerKey → Bool
-same_manager a b = same_text a.name b.name && (same_operation a.operation b.operation && same_part a.part b.part)
 
 abbrev pub is_in_table : Table → ManagerKey → Bool
 is_in_table table a = list_any (λ e. same_manager e.manager a) table

@@ -1,7 +1,7 @@
 -- Whether a line of a bench file of records tells of a subresource: its command, or a manager of its record, acts through one.
 use Rattle.std.specs.Prelude.{Bool, false, ◌||◌, is_some, codes}
 use Rattle.ssa_model.specs.definitions.Json.{list, Items, no_items, item, member_at}
-use Rattle.ssa_model.specs.definitions.RecordReading.{Test, item_at, member_in}
+use Rattle.ssa_model.specs.definitions.Values.{Test, item_at, member_in}
 
 abbrev pub any_item : Test → Items → Bool
 any_item test no_items = false

@@ -5,10 +5,11 @@ use Rattle.ssa_model.specs.definitions.Path.{Path, field}
 use Rattle.ssa_model.specs.definitions.PathMap.{PathSet, get, has, is_empty, size}
 use Rattle.ssa_model.specs.definitions.Kind.{Kind}
 use Rattle.ssa_model.specs.definitions.Body.{Body, record_branch, points, is_ownable}
-use Rattle.ssa_model.specs.definitions.Table.{ManagerKey, Entry, Table, is_in_table}
+use Rattle.ssa_model.specs.definitions.Table.{Entry, Table, is_in_table}
 use Rattle.ssa_model.specs.definitions.Fitting.{IsBodyOf}
 use Rattle.ssa_model.specs.definitions.Operations.{State}
 use Rattle.ssa_model.specs.definitions.History.{Label, applied, updated, stripped, Step, Timeline, is_manager_name, present}
+use Rattle.ssa_model.specs.definitions.Keys.{ManagerKey}
 use Rattle.std.specs.List.{All}
 
 abbrev pub has_distinct_keys : Table → Bool

@@ -5,7 +5,7 @@ use Rattle.ssa_model.specs.definitions.Path.{Element, field, key, Path}
 use Rattle.ssa_model.specs.definitions.PathMap.{empty, insert, listed}
 use Rattle.ssa_model.specs.definitions.Body.{leaf, flat}
 use Rattle.ssa_model.specs.definitions.Parts.{main}
-use Rattle.ssa_model.specs.definitions.Table.{applies}
+use Rattle.ssa_model.specs.definitions.Keys.{applies}
 use Rattle.ssa_model.specs.definitions.Operations.{State}
 use Rattle.ssa_model.specs.definitions.Objects.{body_value}
 use Rattle.ssa_model.specs.definitions.Record.{BodyRecord, TableRecord, body_record, record_of}

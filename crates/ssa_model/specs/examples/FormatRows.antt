@@ -9,7 +9,7 @@ use Rattle.ssa_model.specs.definitions.PathMap.{listed, union}
 use Rattle.ssa_model.specs.definitions.Table.{Entry}
 use Rattle.ssa_model.specs.definitions.Operations.{State}
 use Rattle.ssa_model.specs.definitions.History.{Label, applied}
-use Rattle.ssa_model.specs.definitions.Replies.{number_json}
+use Rattle.ssa_model.specs.definitions.Values.{number_json}
 use Rattle.ssa_model.specs.definitions.BenchText.{Format, states, records, parts, depths, format_number, line, head_of, whole_object, first_json, step_json}
 use Rattle.ssa_model.specs.definitions.RecordedBench.{record_head, record_line}
 use Rattle.ssa_model.specs.definitions.Formats.{file_values, file_text, IsFile}

@@ -3,7 +3,7 @@ use Rattle.std.specs.Prelude.{◌≡◌, ℕ, List, [], ◌∷◌, codes, false,
 use Rattle.ssa_model.specs.definitions.Json.{Text, Json, object, Members, no_members, member}
 use Rattle.ssa_model.specs.definitions.Body.{flat}
 use Rattle.ssa_model.specs.definitions.Parts.{status, Actor}
-use Rattle.ssa_model.specs.definitions.Table.{applies, updates, key_of}
+use Rattle.ssa_model.specs.definitions.Keys.{applies, updates, key_of}
 use Rattle.ssa_model.specs.definitions.Objects.{identity_of}
 use Rattle.ssa_model.specs.definitions.History.{Bench, present}
 use Rattle.ssa_model.specs.definitions.Answers.{Command, apply, update, show, run}

@@ -5,7 +5,7 @@ use Rattle.ssa_model.specs.definitions.Path.{Path, field, value, element_text}
 use Rattle.ssa_model.specs.definitions.PathMap.{paths, listed}
 use Rattle.ssa_model.specs.definitions.Body.{flat}
 use Rattle.ssa_model.specs.definitions.Parts.{main}
-use Rattle.ssa_model.specs.definitions.Table.{applies}
+use Rattle.ssa_model.specs.definitions.Keys.{applies}
 use Rattle.ssa_model.specs.definitions.Objects.{body_value}
 use Rattle.ssa_model.specs.definitions.Operations.{State}
 use Rattle.ssa_model.specs.definitions.History.{present}

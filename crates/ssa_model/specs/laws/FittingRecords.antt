@@ -7,7 +7,7 @@ use Rattle.ssa_model.specs.definitions.Path.{Element, field, key, Path, same_ele
 use Rattle.ssa_model.specs.definitions.PathMap.{PathMap, PathSet, get, has, paths, has_at_or_above, is_empty, size}
 use Rattle.ssa_model.specs.definitions.Kind.{Kind, is_among}
 use Rattle.ssa_model.specs.definitions.Body.{Content, leaf, list_branch, Body, is_other_leaf, order_at}
-use Rattle.ssa_model.specs.definitions.Table.{ManagerKey, Entry, Table, is_in_table}
+use Rattle.ssa_model.specs.definitions.Table.{Entry, Table, is_in_table}
 use Rattle.ssa_model.specs.definitions.History.{is_manager_name}
 use Rattle.ssa_model.specs.definitions.Operations.{State}
 use Rattle.ssa_model.specs.definitions.Valid.{has_distinct_keys, OwnedOwnable, OwnsOwnable, AllEntries, IsTable, IsRooted, IsValidState}
@@ -15,6 +15,7 @@ use Rattle.ssa_model.specs.definitions.Fitting.{IsAt, are_distinct, scalar_of, I
 use Rattle.ssa_model.specs.definitions.Record.{Change, Part, BodyRecord, TableRecord, Record, are_in_one_order, placed}
 use Rattle.ssa_model.specs.definitions.Carry.{staying_items, refilled, carried_order, carry_body, is_key_among, change_for, changed_entry, carry_table, carry}
 use Rattle.ssa_model.specs.definitions.Takes.{BodyTakes, TableTakes, Takes}
+use Rattle.ssa_model.specs.definitions.Keys.{ManagerKey}
 
 -- ---- bodies
 

@@ -3,7 +3,7 @@ use Rattle.std.specs.Prelude.{◌≡◌, ◌<◌, ◌≤◌, ℕ, ◌+◌, List,
 use Rattle.ssa_model.specs.definitions.Json.{Text, Json, same_text}
 use Rattle.ssa_model.specs.definitions.Body.{Body, modified}
 use Rattle.ssa_model.specs.definitions.Parts.{Actor, part_of}
-use Rattle.ssa_model.specs.definitions.Table.{applies, key_of}
+use Rattle.ssa_model.specs.definitions.Keys.{applies, key_of}
 use Rattle.ssa_model.specs.definitions.Operations.{State, Clash, clashes, conflict, pruned}
 use Rattle.ssa_model.specs.definitions.History.{Bench, Step, Timeline, past_len, future_len, forgotten, last_state, present}
 use Rattle.ssa_model.specs.definitions.Answers.{Answer, Command, Fault, apply, undo, redo, fault, moved, refused, answer, command_body, run}

@@ -8,12 +8,13 @@ use Rattle.ssa_model.specs.definitions.Path.{Path, is_root}
 use Rattle.ssa_model.specs.definitions.Kind.{Kind}
 use Rattle.ssa_model.specs.definitions.Body.{Body, over}
 use Rattle.ssa_model.specs.definitions.Parts.{Subresource, is_path_of}
-use Rattle.ssa_model.specs.definitions.Table.{ManagerKey, Table, seat}
+use Rattle.ssa_model.specs.definitions.Table.{Table, seat}
 use Rattle.ssa_model.specs.definitions.Fitting.{IsBodyOf}
 use Rattle.ssa_model.specs.definitions.Operations.{State, apply, update, strip, pruned}
 use Rattle.ssa_model.specs.definitions.History.{is_manager_name, Timeline, Label, Bench, present, appended, advanced, held, moved_to, future_len}
 use Rattle.ssa_model.specs.definitions.Answers.{Command, answer}
 use Rattle.ssa_model.specs.definitions.Effect.{is_accepted}
+use Rattle.ssa_model.specs.definitions.Keys.{ManagerKey}
 
 abbrev pub OverKeepsFit : Type 0
 OverKeepsFit = (kind : Kind) (live config : Body) → IsBodyOf kind live → IsBodyOf kind config → IsBodyOf kind (over live config)

@@ -1,7 +1,8 @@
 //! The keys of a map list, and what is asked of a list's items.
 ghost use Rattle.std.specs.Prelude.{◌≡◌, option_map, Some, IfOk};
 ghost use Rattle.std.specs.List.{list_all};
-ghost use Rattle.ssa_model.specs.definitions.Schema.{has_wrong_keys, is_granular_record, is_scalar_property, is_scalar_type, is_key_list, key_names, texts_of, item_members, item_faults};
+ghost use Rattle.ssa_model.specs.definitions.Schema.{has_wrong_keys, is_granular_record, is_scalar_property, is_scalar_type, is_key_list, key_names, item_members, item_faults};
+ghost use Rattle.ssa_model.specs.definitions.Values.{texts_of};
 ghost use Rattle.ssa_json.specs.View.{view, members_view, items_view};
 ghost use Rattle.ssa_schema.specs.Words.{are_distinct_in, are_text_items, each_text, lacks_key_list, is_scalar_schema};
 ghost use Rattle.ssa_schema.specs.Refusals.{refusal_view, first_of};

@@ -1,7 +1,8 @@
 //! What the members of a schema say.
 ghost use Rattle.std.specs.Prelude.{◌≡◌, option_map, map};
 ghost use Rattle.ssa_model.specs.definitions.Json.{member_of};
-ghost use Rattle.ssa_model.specs.definitions.Schema.{has_member, member_is, is_one_of_texts, is_text_among, is_scalar_type, is_object_type, is_array_type, has_marker, list_type_is, is_atomic};
+ghost use Rattle.ssa_model.specs.definitions.Schema.{member_is, is_one_of_texts, is_text_among, is_scalar_type, is_object_type, is_array_type, has_marker, list_type_is, is_atomic};
+ghost use Rattle.ssa_model.specs.definitions.Values.{has_member};
 ghost use Rattle.ssa_json.specs.View.{view, members_view};
 ghost use Rattle.ssa_schema.specs.Words.{value_is};
 

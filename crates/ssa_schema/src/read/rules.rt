@@ -2,8 +2,9 @@
 //! Kubernetes documentation gives for custom resources.
 ghost use Rattle.std.specs.Prelude.{◌≡◌, option_map, map};
 ghost use Rattle.std.specs.List.{list_all, list_any};
-ghost use Rattle.ssa_model.specs.definitions.Schema.{has_unknown_keyword, has_wrong_type, is_wrong_scalar, is_wrong_object, is_wrong_array, is_wrong_root, has_wrong_shape, is_one_of_texts, names, property_members, item_members, is_text, is_text_among, reserved_names};
+ghost use Rattle.ssa_model.specs.definitions.Schema.{has_unknown_keyword, has_wrong_type, is_wrong_scalar, is_wrong_object, is_wrong_array, is_wrong_root, has_wrong_shape, is_one_of_texts, names, property_members, item_members, is_text_among, reserved_names};
 ghost use Rattle.ssa_model.specs.definitions.Json.{is_object};
+ghost use Rattle.ssa_model.specs.definitions.Values.{is_text};
 ghost use Rattle.ssa_json.specs.View.{members_view};
 ghost use Rattle.ssa_schema.specs.Words.{members_found, members_under, lacks_type, if_member};
 ghost use Rattle.ssa_schema.specs.Standings.{standing_view};

@@ -1,6 +1,6 @@
 use Rattle.std.proofs.Common.{◌≡◌, Bool, true, false, refl, ◌∙◌}
 use Rattle.std.specs.Prelude.{Option, Some, None, is_some, option_map, if◌then◌else◌}
-use Rattle.ssa_model.specs.definitions.Commands.{is_subresource}
+use Rattle.ssa_model.specs.definitions.Keys.{is_subresource}
 use Rattle.ssa_model.specs.definitions.Parts.{status}
 use Rattle.ssa_json.specs.View.{view}
 use Rattle.ssa_path.specs.Subresources.{part_view}

@@ -1,7 +1,7 @@
 use Rattle.std.proofs.Common.{◌≡◌, ◌∙◌, ap, sym, refl, option_map, option_and_then, codes, Some}
 use Rattle.ssa_members.specs.Texts.{text_bytes}
 use Rattle.ssa_model.specs.definitions.Json.{as_text, member_of}
-use Rattle.ssa_model.specs.definitions.Commands.{value_in}
+use Rattle.ssa_model.specs.definitions.Values.{value_in}
 use Rattle.ssa_json.specs.Moment.{is_moment}
 use Rattle.ssa_json.specs.View.{view, members_view}
 use Rattle.ssa_json.specs.Lookups.{view-lookup}

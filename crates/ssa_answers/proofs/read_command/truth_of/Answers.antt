@@ -1,5 +1,5 @@
 use Rattle.std.proofs.Common.{option_map, ap, ◌∙◌, sym}
-use Rattle.ssa_model.specs.definitions.Commands.{truth_in}
+use Rattle.ssa_model.specs.definitions.Values.{truth_in}
 use Rattle.ssa_json.specs.View.{view}
 use Rattle.ssa_answers.proofs.read_command.truth_of.Goals as goal
 

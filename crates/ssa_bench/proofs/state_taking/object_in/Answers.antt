@@ -1,7 +1,7 @@
 use Rattle.std.proofs.Common.{◌≡◌, Option, Some, None, codes, option_map, ap, sym, ◌∙◌}
 use Rattle.ssa_model.specs.definitions.Json as model
 use Rattle.ssa_model.specs.definitions.Json.{member_of}
-use Rattle.ssa_model.specs.definitions.Commands.{value_in}
+use Rattle.ssa_model.specs.definitions.Values.{value_in}
 use Rattle.ssa_model.specs.definitions.BenchOfStates.{object_in}
 use Rattle.ssa_json.specs.View.{view, members_view}
 use Rattle.ssa_json.specs.Lookups.{view-lookup}

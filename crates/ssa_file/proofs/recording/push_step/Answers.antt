@@ -1,12 +1,13 @@
 -- The text of the line of a record is that of the command and of the two states.
 use Rattle.std.proofs.Common.{◌≡◌, ◌++◌, ◌&&◌, true, false, codes, sym, ap, ◌∙◌, subst}
 use Rattle.std.specs.Cmp.{first_so, second_so}
-use Rattle.ssa_model.specs.definitions.Entries.{text_json, version_in}
+use Rattle.ssa_model.specs.definitions.Entries.{version_in}
 use Rattle.ssa_model.specs.definitions.Json.{compact}
 use Rattle.ssa_model.specs.definitions.Lawful.{has_metadata, is_ordered, is_root_kind}
 use Rattle.ssa_model.specs.definitions.Record.{record_of}
 use Rattle.ssa_model.specs.definitions.RecordText.{record_json}
 use Rattle.ssa_model.specs.definitions.Replies.{label_json}
+use Rattle.ssa_model.specs.definitions.Values.{text_json}
 use Rattle.ssa_json.specs.Writable.{IsOfProgram}
 use Rattle.ssa_json.proofs.MemberTexts.{member-of}
 use Rattle.ssa_turn.specs.Histories.{label_view}

@@ -1,6 +1,6 @@
 use Rattle.std.proofs.lemmas.Result.{on_ok_weaker}
 use Rattle.std.proofs.lemmas.Str.{is_utf8-from_IsUtf8}
-use Rattle.ssa_model.specs.definitions.Entries.{text_json}
+use Rattle.ssa_model.specs.definitions.Values.{text_json}
 use Rattle.ssa_json.proofs.MemberTexts.{member-of}
 use Rattle.ssa_json.proofs.OfProgram.{text-of-program}
 use Rattle.ssa_json.proofs.write.push_text_member.Goals as goal

@@ -1,6 +1,6 @@
 use Rattle.std.proofs.Common.{◌++◌, ap, ◌∙◌, string_bytes}
 use Rattle.ssa_model.specs.definitions.Json.{compact, list}
-use Rattle.ssa_model.specs.definitions.Entries.{text_json}
+use Rattle.ssa_model.specs.definitions.Values.{text_json}
 use Rattle.ssa_json.proofs.ItemTexts.{list-written, items_json-map}
 use Rattle.ssa_lines.proofs.json_text.push_names.Goals as goal
 

@@ -1,5 +1,5 @@
 use Rattle.std.proofs.Common.{◌≡◌, ◌∷◌, ◌++◌, false, string_bytes}
-use Rattle.ssa_model.specs.definitions.Entries.{text_json}
+use Rattle.ssa_model.specs.definitions.Values.{text_json}
 use Rattle.ssa_json.proofs.ItemTexts.{rest_text}
 use Rattle.ssa_lines.proofs.json_text.push_names.Given as goal
 

@@ -1,7 +1,7 @@
 use Rattle.std.proofs.Common.{sym, ap, subst, subst₂}
 use Rattle.ssa_model.specs.definitions.Body.{Body}
 use Rattle.ssa_model.specs.definitions.Operations.{apply_part}
-use Rattle.ssa_model.specs.definitions.Table.{ManagerKey, applies, key_of}
+use Rattle.ssa_model.specs.definitions.Keys.{ManagerKey, applies, key_of}
 use Rattle.ssa_path.specs.Subresources.{part_view}
 use Rattle.ssa_typed.specs.Alike.{AreAlike}
 use Rattle.ssa_merge.specs.InPart.{IsOfPart}

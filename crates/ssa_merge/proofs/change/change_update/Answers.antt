@@ -1,7 +1,7 @@
 use Rattle.std.proofs.Common.{subst₂}
 use Rattle.ssa_model.specs.definitions.Body.{Body}
 use Rattle.ssa_model.specs.definitions.Operations.{update_to}
-use Rattle.ssa_model.specs.definitions.Table.{ManagerKey, key_of, updates}
+use Rattle.ssa_model.specs.definitions.Keys.{ManagerKey, key_of, updates}
 use Rattle.ssa_path.specs.Subresources.{part_view}
 use Rattle.ssa_merge.specs.Plans.{IsChanged}
 use Rattle.ssa_merge.specs.States.{actor, state_view}

@@ -1,6 +1,6 @@
 use Rattle.std.proofs.Common.{ap, map, sym, ◌∙◌}
 use Rattle.std.proofs.lemmas.List.{take_all}
-use Rattle.ssa_model.specs.definitions.Entries.{text_json}
+use Rattle.ssa_model.specs.definitions.Values.{text_json}
 use Rattle.ssa_json.specs.View.{items_of, view}
 use Rattle.ssa_merge.specs.Managers.{table_view}
 use Rattle.ssa_merge.proofs.EntryItems.{entry_items-map}

@@ -1,6 +1,7 @@
 use Rattle.std.proofs.Common.{◌≡◌, [], drop, map, take}
-use Rattle.ssa_model.specs.definitions.Entries.{entry_json, text_json}
+use Rattle.ssa_model.specs.definitions.Entries.{entry_json}
 use Rattle.ssa_model.specs.definitions.GivenEntries.{table_behind}
+use Rattle.ssa_model.specs.definitions.Values.{text_json}
 use Rattle.ssa_json.specs.Readings.{readings}
 use Rattle.ssa_json.specs.View.{items_view, view}
 use Rattle.ssa_merge.specs.Managers.{table_view}

@@ -1,8 +1,8 @@
 use Rattle.std.proofs.Common.{◌≡◌, ◌&&◌, None, option_map, is_some, codes, ap, sym, ◌∙◌}
 use Rattle.ssa_json.specs.View.{view, members_view}
-use Rattle.ssa_model.specs.definitions.Commands.{subresource_in, value_in}
+use Rattle.ssa_model.specs.definitions.Keys.{subresource_in, operation_of}
 use Rattle.ssa_model.specs.definitions.Json.{member_of, same_text}
-use Rattle.ssa_model.specs.definitions.GivenEntries.{operation_of}
+use Rattle.ssa_model.specs.definitions.Values.{value_in}
 use Rattle.ssa_path.specs.Subresources.{part_view}
 use Rattle.ssa_merge.specs.EntryReading.{members_saying}
 use Rattle.ssa_merge.specs.Managers.{operation_view}

@@ -2,7 +2,7 @@ use Rattle.std.specs.Prelude.{Ok}
 use Rattle.std.proofs.Common.{subst}
 use Rattle.ssa_model.specs.definitions.Operations.{State, apply}
 use Rattle.ssa_model.specs.definitions.Valid.{IsValidState, KeepsOrder}
-use Rattle.ssa_model.specs.definitions.Table.{applies, key_of}
+use Rattle.ssa_model.specs.definitions.Keys.{applies, key_of}
 use Rattle.ssa_model.specs.laws.KeepsValid.{StaysOutside}
 use Rattle.ssa_path.specs.Subresources.{part_view}
 use Rattle.ssa_merge.specs.States.{actor, state_view}

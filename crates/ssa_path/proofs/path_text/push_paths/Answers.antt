@@ -2,7 +2,8 @@ use Rattle.std.proofs.Common.{◌≡◌, List, [], ◌∷◌, ◌++◌, false, a
 use Rattle.std.specs.Borrow.{Bor}
 use Rattle.ssa_model.specs.definitions.Json.{compact_items, list}
 use Rattle.ssa_model.specs.definitions.PathMap.{paths as set_paths}
-use Rattle.ssa_model.specs.definitions.Replies.{items_json, path_json}
+use Rattle.ssa_model.specs.definitions.Replies.{path_json}
+use Rattle.ssa_model.specs.definitions.Values.{items_json}
 use Rattle.ssa_json.specs.Writable.{IsOfProgram}
 use Rattle.ssa_path.specs.Listing.{behind, way_view}
 use Rattle.ssa_path.specs.Trie.{paths}

@@ -1,6 +1,6 @@
 use Rattle.std.proofs.Common.{◌≡◌, sym, ap, subst, ◌∙◌, true≢false}
 use Rattle.std.specs.Prelude.{is_some, IfSome}
-use Rattle.ssa_model.specs.definitions.Entries.{text_json}
+use Rattle.ssa_model.specs.definitions.Values.{text_json}
 use Rattle.ssa_model.specs.definitions.Json.{same_json}
 use Rattle.ssa_model.specs.definitions.BenchFile.{IsReadBack}
 use Rattle.ssa_model.specs.definitions.Carry.{carry}

@@ -1,4 +1,4 @@
-use Rattle.ssa_model.specs.definitions.RecordReading.{is_key, key_in}
+use Rattle.ssa_model.specs.definitions.Keys.{is_key, key_in}
 use Rattle.ssa_merge.specs.Managers.{key_view}
 use Rattle.ssa_told.proofs.ToldItems.{AreToldSoFar}
 use Rattle.ssa_told.proofs.key_reading.told_gone.Given as goal

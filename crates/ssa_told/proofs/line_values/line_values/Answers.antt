@@ -1,7 +1,7 @@
 use Rattle.std.proofs.Common.{ap, option_map, subst, sym, ◌∙◌}
 use Rattle.std.specs.Prelude.{codes}
 use Rattle.ssa_model.specs.definitions.Json.{member_at}
-use Rattle.ssa_model.specs.definitions.RecordReading.{has_members}
+use Rattle.ssa_model.specs.definitions.Values.{has_members}
 use Rattle.ssa_json.specs.View.{view}
 use Rattle.ssa_json.proofs.Views.{view-Object}
 use Rattle.ssa_told.specs.LineValues.{IsLine, line_shape}

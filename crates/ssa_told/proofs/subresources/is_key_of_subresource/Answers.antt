@@ -2,7 +2,7 @@ use Rattle.std.proofs.Common.{◌≡◌, List, [], ◌∷◌, length, nat_lt, re
 use Rattle.std.specs.Prelude.{Some, is_some, option_map}
 use Rattle.std.proofs.lemmas.Bool.Decides.{nat_tests}
 use Rattle.ssa_model.specs.definitions.Json.{Json, scalar, list, object}
-use Rattle.ssa_model.specs.definitions.RecordReading.{item_in}
+use Rattle.ssa_model.specs.definitions.Values.{item_in}
 use Rattle.ssa_model.specs.definitions.ToldParts.{is_key_of_subresource}
 use Rattle.ssa_model.proofs.Basics.{some-same}
 use Rattle.ssa_json.specs.View.{view, items_view}

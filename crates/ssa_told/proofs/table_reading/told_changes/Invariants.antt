@@ -1,5 +1,6 @@
 use Rattle.ssa_json.specs.Readings.{readings}
-use Rattle.ssa_model.specs.definitions.RecordReading.{change_in, change_shape, has_members}
+use Rattle.ssa_model.specs.definitions.RecordReading.{change_in, change_shape}
+use Rattle.ssa_model.specs.definitions.Values.{has_members}
 use Rattle.ssa_told.specs.Told.{told_change}
 use Rattle.ssa_told.proofs.ToldItems.{AreToldSoFar}
 use Rattle.ssa_told.proofs.table_reading.told_changes.Given as goal

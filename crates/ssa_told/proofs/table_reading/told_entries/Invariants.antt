@@ -1,5 +1,6 @@
 use Rattle.ssa_json.specs.Readings.{readings}
-use Rattle.ssa_model.specs.definitions.RecordReading.{here_in, here_shape, has_members}
+use Rattle.ssa_model.specs.definitions.RecordReading.{here_in, here_shape}
+use Rattle.ssa_model.specs.definitions.Values.{has_members}
 use Rattle.ssa_told.specs.Told.{told_here}
 use Rattle.ssa_told.proofs.ToldItems.{AreToldSoFar}
 use Rattle.ssa_told.proofs.table_reading.told_entries.Given as goal

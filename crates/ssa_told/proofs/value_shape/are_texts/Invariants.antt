@@ -1,6 +1,6 @@
 use Rattle.std.proofs.Common.{◌≡◌, drop}
 use Rattle.std.specs.Prelude.{is_some}
-use Rattle.ssa_model.specs.definitions.Schema.{texts_of}
+use Rattle.ssa_model.specs.definitions.Values.{texts_of}
 use Rattle.ssa_json.specs.View.{items_view}
 use Rattle.ssa_told.proofs.value_shape.are_texts.Given as goal
 

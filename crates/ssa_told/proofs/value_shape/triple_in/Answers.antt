@@ -1,5 +1,5 @@
 use Rattle.std.proofs.Common.{arith, [], ◌∷◌, ap, ◌∙◌}
-use Rattle.ssa_model.specs.definitions.RecordReading.{has_items}
+use Rattle.ssa_model.specs.definitions.Values.{has_items}
 use Rattle.ssa_told.proofs.ToldItems.{items-none, list-seen, three-items}
 use Rattle.ssa_told.proofs.value_shape.triple_in.Goals as goal
 

@@ -1,6 +1,6 @@
 use Rattle.std.proofs.Common.{◌∙◌, ap, true, false, subst}
 use Rattle.std.specs.Prelude.{codes}
-use Rattle.ssa_model.specs.definitions.Entries.{text_json}
+use Rattle.ssa_model.specs.definitions.Values.{text_json}
 use Rattle.ssa_json.specs.Writable.{IsOfProgram}
 use Rattle.ssa_json.specs.declared.value.Scalar.TheVariants.{Bool}
 use Rattle.ssa_json.proofs.MemberTexts.{member-as}

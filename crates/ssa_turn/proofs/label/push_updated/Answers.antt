@@ -1,6 +1,6 @@
 use Rattle.std.proofs.Common.{◌∙◌, ap, false, subst}
 use Rattle.std.specs.Prelude.{codes}
-use Rattle.ssa_model.specs.definitions.Entries.{text_json}
+use Rattle.ssa_model.specs.definitions.Values.{text_json}
 use Rattle.ssa_json.specs.Writable.{IsOfProgram}
 use Rattle.ssa_json.proofs.MemberTexts.{member-as}
 use Rattle.ssa_path.specs.Subresources.{part_view}

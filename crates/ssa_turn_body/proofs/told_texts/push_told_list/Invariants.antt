@@ -1,6 +1,6 @@
 use Rattle.std.proofs.Common.{◌≡◌, ◌∷◌, ◌++◌, false, take}
 use Rattle.ssa_model.specs.definitions.Json.{list}
-use Rattle.ssa_model.specs.definitions.Replies.{items_json}
+use Rattle.ssa_model.specs.definitions.Values.{items_json}
 use Rattle.ssa_json.specs.Writable.{IsOfProgram}
 use Rattle.ssa_json.proofs.ItemTexts.{rest_text}
 use Rattle.ssa_turn_body.specs.ToldValues.{entry_json}

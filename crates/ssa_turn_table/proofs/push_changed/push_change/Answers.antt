@@ -1,7 +1,7 @@
 use Rattle.std.proofs.Common.{true, false, ap, subst}
 use Rattle.std.specs.Prelude.{codes}
 use Rattle.std.proofs.lemmas.Result.{on_ok_weaker}
-use Rattle.ssa_model.specs.definitions.Entries.{text_json}
+use Rattle.ssa_model.specs.definitions.Values.{text_json}
 use Rattle.ssa_model.specs.definitions.FieldsV1.{fields_json}
 use Rattle.ssa_model.specs.definitions.PathMap.{listed}
 use Rattle.ssa_json.specs.Writable.{IsOfProgram}

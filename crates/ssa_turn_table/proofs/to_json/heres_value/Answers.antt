@@ -1,7 +1,7 @@
 use Rattle.std.proofs.Common.{ap, map, ◌∙◌}
 use Rattle.std.proofs.lemmas.List.{take_all}
 use Rattle.ssa_model.specs.definitions.Json.{list}
-use Rattle.ssa_model.specs.definitions.Entries.{text_json}
+use Rattle.ssa_model.specs.definitions.Values.{text_json}
 use Rattle.ssa_model.specs.definitions.RecordText.{here_json}
 use Rattle.ssa_json.specs.View.{items_of}
 use Rattle.ssa_json.proofs.Listed.{items-made}

@@ -1,6 +1,6 @@
 use Rattle.std.proofs.Common.{◌≡◌, map, take}
 use Rattle.ssa_json.specs.View.{view}
-use Rattle.ssa_model.specs.definitions.Entries.{text_json}
+use Rattle.ssa_model.specs.definitions.Values.{text_json}
 use Rattle.ssa_model.specs.definitions.RecordText.{here_json}
 use Rattle.ssa_turn_table.specs.Tables.{heres_view}
 use Rattle.ssa_turn_table.proofs.to_json.heres_value.Given as goal

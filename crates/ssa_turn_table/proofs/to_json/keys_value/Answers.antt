@@ -1,7 +1,7 @@
 use Rattle.std.proofs.Common.{ap, map, ◌∙◌}
 use Rattle.std.proofs.lemmas.List.{take_all}
 use Rattle.ssa_model.specs.definitions.Json.{list}
-use Rattle.ssa_model.specs.definitions.RecordText.{gone_json}
+use Rattle.ssa_model.specs.definitions.Keys.{key_values}
 use Rattle.ssa_json.specs.View.{items_of}
 use Rattle.ssa_json.proofs.Listed.{items-made}
 use Rattle.ssa_json.proofs.Views.{view-List}
@@ -10,7 +10,7 @@ use Rattle.ssa_turn_table.proofs.to_json.keys_value.Goals as goal
 
 pub returns : goal.returns
 returns c =
-    let f = gone_json in
+    let f = key_values in
     let xs = c.args.gone.now in
     view-List c.loop-key.values ∙ ap (λ vs. list (items_of vs)) (c.loop-key.invariant
     ∙ ap (λ ys. map f (keys_view ys)) (take_all c.loop-key.key-index xs c.loop-key-test.false))

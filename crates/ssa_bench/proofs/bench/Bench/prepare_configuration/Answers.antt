@@ -5,7 +5,7 @@ use Rattle.ssa_model.specs.definitions.History as model
 use Rattle.ssa_model.specs.definitions.History.{is_manager_name, present}
 use Rattle.ssa_model.specs.definitions.Operations.{State, Refusal, apply}
 use Rattle.ssa_model.specs.definitions.Answers.{apply_answer}
-use Rattle.ssa_model.specs.definitions.Table.{applies, key_of}
+use Rattle.ssa_model.specs.definitions.Keys.{applies, key_of}
 use Rattle.ssa_model.specs.definitions.Valid.{IsValidState, IsValidBody}
 use Rattle.ssa_model.specs.definitions.RecordReading.{HasReadPaths}
 use Rattle.ssa_json.specs.Readings.{readings}

@@ -4,7 +4,7 @@ use Rattle.ssa_model.specs.definitions.Json.{Text}
 use Rattle.ssa_model.specs.definitions.History as model
 use Rattle.ssa_model.specs.definitions.History.{is_manager_name, present}
 use Rattle.ssa_model.specs.definitions.Operations.{State, Refusal, update}
-use Rattle.ssa_model.specs.definitions.Table.{updates, key_of}
+use Rattle.ssa_model.specs.definitions.Keys.{updates, key_of}
 use Rattle.ssa_model.specs.definitions.Valid.{IsValidState, IsValidBody}
 use Rattle.ssa_model.specs.definitions.RecordReading.{HasReadPaths}
 use Rattle.ssa_json.specs.Readings.{readings}

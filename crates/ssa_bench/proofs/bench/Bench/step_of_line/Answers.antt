@@ -2,7 +2,7 @@ use Rattle.std.proofs.Common.{◌≡◌, ◌&&◌, Some, option_map, ap, sym, su
 use Rattle.std.specs.Prelude.{Ok, codes}
 use Rattle.ssa_model.specs.definitions.Answers.{file_state}
 use Rattle.ssa_model.specs.definitions.BenchText.{step_json}
-use Rattle.ssa_model.specs.definitions.Commands.{value_in}
+use Rattle.ssa_model.specs.definitions.Values.{value_in}
 use Rattle.ssa_model.specs.definitions.History as model
 use Rattle.ssa_model.specs.definitions.History.{present}
 use Rattle.ssa_model.specs.definitions.Json.{compact, member_at, same_text}

@@ -1,7 +1,8 @@
 use Rattle.std.proofs.Common.{◌≡◌, Some, ap, sym, subst, ◌∙◌, option_map}
-use Rattle.ssa_model.specs.definitions.Entries.{text_json, version_in}
+use Rattle.ssa_model.specs.definitions.Entries.{version_in}
 use Rattle.ssa_model.specs.definitions.History as model
 use Rattle.ssa_model.specs.definitions.History.{present}
+use Rattle.ssa_model.specs.definitions.Values.{text_json}
 use Rattle.ssa_model.proofs.ValidTimelines.{present_valid}
 use Rattle.ssa_json.specs.View.{view}
 use Rattle.ssa_told.specs.LineValues.{IsLine, TellsLine}

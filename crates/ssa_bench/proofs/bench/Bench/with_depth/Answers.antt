@@ -6,7 +6,7 @@ use Rattle.ssa_model.specs.definitions.Answers.{body_fault, identity_fault, file
 use Rattle.ssa_json.specs.Readings.{readings}
 use Rattle.ssa_json.specs.View.{view}
 use Rattle.ssa_merge.specs.States.{state_view}
-use Rattle.ssa_model.specs.definitions.Commands.{text_in}
+use Rattle.ssa_model.specs.definitions.Values.{text_in}
 use Rattle.ssa_object.specs.Identities.{identity_in, version_of}
 use Rattle.ssa_bench.proofs.Taken.{passed-on, identity-found, bench-no_object, bench-nameless, bench-state}
 use Rattle.ssa_bench.proofs.bench.Bench.with_depth.Goals as goal

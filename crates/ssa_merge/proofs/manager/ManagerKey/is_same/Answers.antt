@@ -1,7 +1,7 @@
 use Rattle.std.proofs.Common.{◌≡◌, Bool, true, false, ◌&&◌, refl, ap, sym, ◌∙◌, string_bytes}
 use Rattle.ssa_model.specs.definitions.Json.{same_text}
 use Rattle.ssa_model.specs.definitions.Parts.{same_part}
-use Rattle.ssa_model.specs.definitions.Table.{same_operation}
+use Rattle.ssa_model.specs.definitions.Keys.{same_operation}
 use Rattle.ssa_json.proofs.SameTexts.{by_bytes}
 use Rattle.ssa_path.specs.Subresources.{part_view}
 use Rattle.ssa_merge.specs.Managers.{operation_view}

@@ -1,5 +1,5 @@
 use Rattle.std.proofs.Common.{codes, refl, ap, ◌∙◌}
-use Rattle.ssa_model.specs.definitions.Entries.{text_json}
+use Rattle.ssa_model.specs.definitions.Values.{text_json}
 use Rattle.ssa_model.specs.definitions.Json.{object}
 use Rattle.ssa_json.specs.View.{members_view}
 use Rattle.ssa_json.proofs.Views.{view-Object}

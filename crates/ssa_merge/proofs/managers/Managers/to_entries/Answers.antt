@@ -1,7 +1,8 @@
 use Rattle.std.proofs.Common.{ap, ◌∙◌, map}
 use Rattle.std.proofs.lemmas.List.{take_all}
-use Rattle.ssa_model.specs.definitions.Entries.{entry_json, entry_items, text_json}
+use Rattle.ssa_model.specs.definitions.Entries.{entry_json, entry_items}
 use Rattle.ssa_model.specs.definitions.Json.{list}
+use Rattle.ssa_model.specs.definitions.Values.{text_json}
 use Rattle.ssa_json.specs.View.{items_of}
 use Rattle.ssa_json.proofs.Views.{view-List}
 use Rattle.ssa_merge.specs.Managers.{table_view}

@@ -1,6 +1,7 @@
 use Rattle.std.proofs.Common.{◌≡◌, map, take}
 use Rattle.ssa_json.specs.View.{view}
-use Rattle.ssa_model.specs.definitions.Entries.{entry_json, text_json}
+use Rattle.ssa_model.specs.definitions.Entries.{entry_json}
+use Rattle.ssa_model.specs.definitions.Values.{text_json}
 use Rattle.ssa_merge.specs.Managers.{table_view}
 use Rattle.ssa_merge.proofs.managers.Managers.to_entries.Given as goal
 

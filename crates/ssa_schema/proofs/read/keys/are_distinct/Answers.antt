@@ -1,5 +1,6 @@
 use Rattle.std.proofs.Common.{[], ◌∷◌, ◌+◌, ◌&&◌, drop, sym, ap, ◌∙◌}
-use Rattle.ssa_model.specs.definitions.Schema.{texts_of, is_one_of_texts}
+use Rattle.ssa_model.specs.definitions.Schema.{is_one_of_texts}
+use Rattle.ssa_model.specs.definitions.Values.{texts_of}
 use Rattle.ssa_json.specs.View.{view, items_view}
 use Rattle.ssa_schema.specs.Kinds.{names_view}
 use Rattle.ssa_schema.proofs.Distinct.{apart_in, apart-start, apart-text}

@@ -1,6 +1,6 @@
 use Rattle.std.proofs.Common.{◌≡◌, List, drop}
 use Rattle.ssa_model.specs.definitions.Json.{Text}
-use Rattle.ssa_model.specs.definitions.Schema.{texts_of}
+use Rattle.ssa_model.specs.definitions.Values.{texts_of}
 use Rattle.ssa_json.specs.View.{items_view}
 use Rattle.ssa_schema.specs.Words.{are_distinct_in}
 use Rattle.ssa_schema.proofs.Distinct.{apart_in}

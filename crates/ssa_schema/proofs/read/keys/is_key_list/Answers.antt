@@ -1,6 +1,7 @@
 use Rattle.std.proofs.Common.{sym, ap, ◌∙◌}
 use Rattle.std.proofs.lemmas.Result.{IfOk-weaker}
-use Rattle.ssa_model.specs.definitions.Schema.{is_key_list, texts_of}
+use Rattle.ssa_model.specs.definitions.Schema.{is_key_list}
+use Rattle.ssa_model.specs.definitions.Values.{texts_of}
 use Rattle.ssa_json.specs.View.{view, items_view}
 use Rattle.ssa_schema.specs.Words.{are_distinct_in}
 use Rattle.ssa_schema.proofs.Distinct.{key_list-some}

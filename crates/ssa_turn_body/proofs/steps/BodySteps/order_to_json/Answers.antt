@@ -1,6 +1,6 @@
 use Rattle.std.proofs.Common.{ap, ◌∙◌}
 use Rattle.ssa_model.specs.definitions.RecordText.{order_json}
-use Rattle.ssa_model.specs.definitions.Replies.{list_json}
+use Rattle.ssa_model.specs.definitions.Values.{list_json}
 use Rattle.ssa_turn_body.specs.Records.{orders_in, told_by}
 use Rattle.ssa_turn_body.specs.ToldValues.{as_values, entry_json}
 use Rattle.ssa_turn_body.proofs.ValuesInOrder.{told-listed}

@@ -2,7 +2,7 @@ use Rattle.std.proofs.Common.{◌++◌, ap, subst, ◌∙◌}
 use Rattle.std.proofs.lemmas.Result.{on_ok_weaker}
 use Rattle.ssa_model.specs.definitions.Json.{compact}
 use Rattle.ssa_model.specs.definitions.PathMap.{from_entries}
-use Rattle.ssa_model.specs.definitions.Replies.{list_json}
+use Rattle.ssa_model.specs.definitions.Values.{list_json}
 use Rattle.ssa_json.specs.Writable.{IsOfProgram}
 use Rattle.ssa_turn_body.specs.Records.{cuts_in, told_by}
 use Rattle.ssa_turn_body.specs.ToldValues.{as_values, entry_json, path_alone}

@@ -1,5 +1,5 @@
 use Rattle.std.proofs.Common.{ap, ◌∙◌}
-use Rattle.ssa_model.specs.definitions.Replies.{list_json}
+use Rattle.ssa_model.specs.definitions.Values.{list_json}
 use Rattle.ssa_turn_body.specs.Records.{told_by}
 use Rattle.ssa_turn_body.specs.ToldValues.{as_values, coming_json, comes_in, entry_json}
 use Rattle.ssa_turn_body.proofs.PutValues.{put-listed}

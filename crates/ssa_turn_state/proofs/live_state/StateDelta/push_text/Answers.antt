@@ -1,9 +1,9 @@
 use Rattle.std.proofs.Common.{true, false, ap, subst}
 use Rattle.std.specs.Prelude.{codes}
-use Rattle.ssa_model.specs.definitions.Entries.{text_json}
+use Rattle.ssa_model.specs.definitions.Values.{text_json, list_json}
 use Rattle.ssa_model.specs.definitions.Record.{Record}
 use Rattle.ssa_model.specs.definitions.RecordText.{change_json, leaf_json, order_json, put_json}
-use Rattle.ssa_model.specs.definitions.Replies.{list_json, paths_json}
+use Rattle.ssa_model.specs.definitions.Replies.{paths_json}
 use Rattle.ssa_json.specs.Writable.{IsOfProgram}
 use Rattle.ssa_json.proofs.MemberTexts.{member-as, member-of}
 use Rattle.ssa_turn_state.specs.States.{state_steps}
