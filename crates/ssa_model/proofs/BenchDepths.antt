@@ -8,11 +8,12 @@ use Rattle.ssa_model.specs.definitions.Operations.{State}
 use Rattle.ssa_model.specs.definitions.Schema.{at_root}
 use Rattle.ssa_model.specs.definitions.Replies.{label_json}
 use Rattle.ssa_model.specs.definitions.Parts.{main, status}
-use Rattle.ssa_model.specs.definitions.History.{Label, applied, updated, stripped, Step, Bench}
+use Rattle.ssa_model.specs.definitions.History.{Label, Step, Bench}
 use Rattle.ssa_model.specs.definitions.Readings.{Readings}
 use Rattle.ssa_model.specs.definitions.BenchText.{head_json, state_json, whole_object, first_json, step_json, bench_values}
 use Rattle.ssa_model.specs.definitions.Valid.{IsValidState, MakesValid}
 use Rattle.ssa_model.specs.definitions.BenchFile.{IsValidBench}
+use Rattle.ssa_model.specs.definitions.Commands.{apply, update, strip}
 use Rattle.ssa_model.specs.laws.BenchDepths.{IsShallow, StateValuesAreShallow, SchemaIsShallow, DistinctBenchIsShallow, SecondTypeIsDeep}
 use Rattle.ssa_model.specs.examples.FileRows.{filed}
 use Rattle.ssa_model.proofs.FiledBench.{filed-valid}
@@ -28,9 +29,11 @@ schema_is_shallow v kind apart read = let h = schema-depth most_levels at_root v
 
 -- the value of a label nests at most one level
 pub label-depth : (label : Label) → depth (label_json label) ≤ 1
-label-depth (applied who force at) = elim who.part as (λ s. depth (label_json (applied (record { name = who.name; part = s }) force at)) ≤ 1) [ main ↦ omega arith | status ↦ omega arith ]
-label-depth (updated who at) = elim who.part as (λ s. depth (label_json (updated (record { name = who.name; part = s }) at)) ≤ 1) [ main ↦ omega arith | status ↦ omega arith ]
-label-depth stripped = omega arith
+label-depth (apply who force o) =
+    elim who.part as (λ s. depth (label_json (apply (record { name = who.name; part = s; moment = who.moment }) force o)) ≤ 1) [ main ↦ omega arith | status ↦ omega arith ]
+label-depth (update who o) =
+    elim who.part as (λ s. depth (label_json (update (record { name = who.name; part = s; moment = who.moment }) o)) ≤ 1) [ main ↦ omega arith | status ↦ omega arith ]
+label-depth strip = omega arith
 
 module _ (readings : Readings) (bench : Bench) (valid : IsValidBench readings bench) where
   -- the object of a valid state, with its managers' entries, nests at most 71 levels

@@ -4,9 +4,9 @@ use Rattle.std.specs.Prelude.{Result, Ok, Err, if◌then◌else◌, None, Some}
 use Rattle.ssa_model.specs.definitions.Json.{Text}
 use Rattle.ssa_model.specs.definitions.Operations.{State, Refusal}
 use Rattle.ssa_model.specs.definitions.History.{Step, Timeline, Bench, present, last_state, appended, forgotten, moved_to, with_timeline}
-use Rattle.ssa_model.specs.definitions.Answers.{Answer, Reply, moved, Command, answer, accept}
+use Rattle.ssa_model.specs.definitions.Answers.{Answer, Reply, moved, answer, accept, BenchCommand, Deed, label_of, carried_out}
 use Rattle.ssa_model.proofs.Answered.{answers-hold}
-use Rattle.ssa_model.specs.definitions.Effect.{Deeds, with_deed, is_accepted, deed_of, Deed, label_of, carried_out, and_then, all_carried_out, AreSteps, IsHistory, KeepsHistory, PresentIsCarriedOut, HistoriesAreCarriedOut}
+use Rattle.ssa_model.specs.definitions.Effect.{Deeds, with_deed, and_then, all_carried_out, AreSteps, IsHistory, KeepsHistory, PresentIsCarriedOut, HistoriesAreCarriedOut, made_a_state, deed_in}
 
 pub steps-take : (n : ℕ) (s : State) (ds : List Deed) (ts : List Step) → AreSteps s ds ts → AreSteps s (take n ds) (take n ts)
 steps-take zero s ds ts h = tt
@@ -70,18 +70,18 @@ pub longer : (n : ℕ) (ts : List Step) (t : Step) → n ≤ length ts → n + 1
 longer n ts t h = grind (arith, length-append (take n ts) (t ∷ []), length-take n ts)
 
 module _ (origin : State) (bench : Bench) (h : IsHistory origin bench.timeline) where
-  abbrev Keeps : Command → Answer → Type 0
+  abbrev Keeps : BenchCommand → Answer → Type 0
   Keeps c a = KeepsHistory origin bench c h a
 
-  same : (c : Command) (reply : Reply) → is_accepted reply ≡ false → Keeps c (reply, bench)
+  same : (c : BenchCommand) (reply : Reply) → made_a_state reply ≡ false → Keeps c (reply, bench)
   same c reply refused_is = record { history = h; deeds = ap (λ b. deeds_by c b) (sym refused_is) }
     where
-      deeds_by : Command → Bool → Deeds
-      deeds_by c b = if b then elim (deed_of bench c) [ None ↦ h.deeds | Some d ↦ with_deed bench.depth bench.timeline.place h.deeds d ] else h.deeds
+      deeds_by : BenchCommand → Bool → Deeds
+      deeds_by c b = if b then elim (deed_in bench c) [ None ↦ h.deeds | Some d ↦ with_deed bench.depth bench.timeline.place h.deeds d ] else h.deeds
 
-  accepted : (c : Command) (word : Text) (d : Deed) (s : State) → deed_of bench c ≡ Some d → carried_out (present bench.timeline) d ≡ Ok s
-      → Keeps c (accept bench word (label_of d) s)
-  accepted c word d s own e =
+  accepted : (c : BenchCommand) (d : Deed) (s : State) → deed_in bench c ≡ Some d → carried_out (present bench.timeline) d ≡ Ok s
+      → Keeps c (accept bench d s)
+  accepted c d s own e =
       let t = bench.timeline in
       let kept = take t.place h.deeds.kept ++ d ∷ [] in
       let whole : Deeds = record { forgotten = h.deeds.forgotten; kept = kept } in
@@ -102,11 +102,11 @@ module _ (origin : State) (bench : Bench) (h : IsHistory origin bench.timeline) 
         deeds = ap (λ o. elim o [ None ↦ h.deeds | Some e ↦ with_deed bench.depth t.place h.deeds e ]) (sym own);
       }
 
-  goes : (c : Command) (word : Text) (past future n : ℕ) → n ≤ length bench.timeline.later
+  goes : (c : BenchCommand) (word : Text) (past future n : ℕ) → n ≤ length bench.timeline.later
       → Keeps c (moved word past future, with_timeline bench (moved_to bench.timeline n))
   goes c word past future n fits = record { history = record { deeds = h.deeds; first = h.first; steps = h.steps; place = fits }; deeds = refl }
 
-  keeps : (c : Command) → Keeps c (answer bench c)
+  keeps : (c : BenchCommand) → Keeps c (answer bench c)
   keeps = answers-hold bench Keeps same accepted goes h.place
 
 -- an answer keeps a history of deeds, and the present state is what those up to the place make

@@ -5,8 +5,8 @@ use Rattle.std.proofs.lemmas.List.{length-take-le, take-append-drop}
 use Rattle.std.specs.Prelude.{Ok, if◌then◌else◌}
 use Rattle.ssa_model.specs.definitions.Operations.{State}
 use Rattle.ssa_model.specs.definitions.History.{Step, Timeline, Bench, present, last_state, appended, forgotten, moved_to}
-use Rattle.ssa_model.specs.definitions.Answers.{Command, answer, run}
-use Rattle.ssa_model.specs.definitions.Effect.{Deed, label_of, carried_out, AreSteps}
+use Rattle.ssa_model.specs.definitions.Answers.{answer, run, BenchCommand, Deed, label_of, carried_out}
+use Rattle.ssa_model.specs.definitions.Effect.{AreSteps}
 use Rattle.ssa_model.specs.laws.Headline.{GoesOn, RunGoesOn}
 use Rattle.ssa_model.proofs.Answered.{answers-hold}
 use Rattle.ssa_model.proofs.Effect.{steps-take, steps-push, longer}
@@ -137,13 +137,13 @@ module _ (old : Timeline) where
   held-on true t h = fewer t h
   held-on false t h = h
 
-  answered : (bench : Bench) → GoesOn old bench.timeline → (c : Command) → GoesOn old (answer bench c).1.timeline
+  answered : (bench : Bench) → GoesOn old bench.timeline → (c : BenchCommand) → GoesOn old (answer bench c).1.timeline
   answered bench h =
       answers-hold bench (λ c a. GoesOn old a.1.timeline) (λ c reply no. h)
-      (λ c word d s own e. held-on (nat_lt bench.depth (bench.timeline.place + 1)) (appended bench.timeline (label_of d) s) (further bench.timeline d s h e))
+      (λ c d s own e. held-on (nat_lt bench.depth (bench.timeline.place + 1)) (appended bench.timeline (label_of d) s) (further bench.timeline d s h e))
       (λ c word past future n place. elsewhere bench.timeline n h place) h.place
 
-  after : (bench : Bench) (cs : List Command) → GoesOn old bench.timeline → GoesOn old (run bench cs).1.timeline
+  after : (bench : Bench) (cs : List BenchCommand) → GoesOn old bench.timeline → GoesOn old (run bench cs).1.timeline
   after bench [] h = h
   after bench (c ∷ cs) h = after (answer bench c).1 cs (answered bench h c)
 

@@ -12,9 +12,10 @@ use Rattle.ssa_model.specs.definitions.Keys.{applies, key_of}
 use Rattle.ssa_model.specs.definitions.Parts.{Actor, part_of}
 use Rattle.ssa_model.specs.definitions.Operations as operations
 use Rattle.ssa_model.specs.definitions.Operations.{Clash, State, Refusal, clashes, conflict, too_many_paths, pruned, if_seated, is_none}
-use Rattle.ssa_model.specs.definitions.History.{Label, stripped, Step, Bench, Timeline, past_len, future_len, last_state, present, advanced, forgotten, moved_to, with_timeline, is_manager_name}
-use Rattle.ssa_model.specs.definitions.Answers.{Answer, Command, Fault, apply, update, strip, undo, redo, show, owners, log, fault, moved, refused, body_fault, identity_fault, managed_fields_given, nothing_to_undo, nothing_to_redo, manager_name, no_subresource, has_part, answer, accept, accept_or_refuse, with_body, apply_answer, command_body, run}
-use Rattle.ssa_model.specs.definitions.Effect.{Deeds, no_deeds, deeds_to, all_carried_out, deeds_of_run, is_accepted, AreSteps, IsHistory}
+use Rattle.ssa_model.specs.definitions.History.{Label, Step, Bench, Timeline, past_len, future_len, last_state, present, advanced, forgotten, moved_to, with_timeline, is_manager_name}
+use Rattle.ssa_model.specs.definitions.Answers.{Answer, Fault, fault, moved, refused, body_fault, identity_fault, managed_fields_given, nothing_to_undo, nothing_to_redo, manager_name, no_subresource, has_part, answer, accept, accept_or_refuse, command_body, run, BenchCommand, Deed, label_of, carried_out, actor_body, deed_of}
+use Rattle.ssa_model.specs.definitions.Effect.{Deeds, no_deeds, deeds_to, all_carried_out, deeds_of_run, AreSteps, IsHistory, made_a_state}
+use Rattle.ssa_model.specs.definitions.Commands.{apply, undo, redo, show, owners, log, change, map_ok}
 use Rattle.ssa_model.specs.laws.Headline.{IsAlone, RunsGoOn, RunIsInEffect, RunKeepsHistory, up_to_place, with_room, IsRestored, UndoRestoresAll, RedoRestoresAll, RefusalsChangeNothing, IsConflictOf, ConflictsListClashes}
 use Rattle.ssa_model.proofs.Effect.{histories_are_carried_out}
 use Rattle.std.proofs.lemmas.List.{length-take-le}
@@ -26,10 +27,10 @@ pub runs_go_on : RunsGoOn
 runs_go_on bench [] ds = refl
 runs_go_on bench (c ∷ cs) ds = ap (λ r. ((answer bench c).0 ∷ r.0, r.1)) (runs_go_on (answer bench c).1 cs ds)
 
-abbrev FromRun : State → Bench → Deeds → List Command → Type 0
+abbrev FromRun : State → Bench → Deeds → List BenchCommand → Type 0
 FromRun origin bench before cs = (history : IsHistory origin (run bench cs).1.timeline) × (history.deeds ≡ deeds_of_run bench before cs)
 
-from-run : (origin : State) (bench : Bench) (cs : List Command) (h : IsHistory origin bench.timeline) → FromRun origin bench h.deeds cs
+from-run : (origin : State) (bench : Bench) (cs : List BenchCommand) (h : IsHistory origin bench.timeline) → FromRun origin bench h.deeds cs
 from-run origin bench [] h = (h, refl)
 from-run origin bench (c ∷ cs) h =
     let kept = histories_are_carried_out.0 origin bench c h in
@@ -65,23 +66,17 @@ module _ (bench : Bench) (P : Answer → Type 0) where
   one_of true x y p q = p
   one_of false x y p q = q
 
-  of_body : (r : Result Body Fault) (go : Body → Answer) → ((f : Fault) → r ≡ Err f → P (fault f, bench)) → ((body : Body) → r ≡ Ok body → P (go body))
-      → P (elim r [ Ok body ↦ go body | Err f ↦ (fault f, bench) ])
-  of_body (Ok body) go p q = q body refl
-  of_body (Err f) go p q = p f refl
+  -- a change: refused by a test, or answered with its deed
+  by_deed : (r : Result Deed Fault) → ((f : Fault) → r ≡ Err f → P (fault f, bench))
+      → ((d : Deed) → r ≡ Ok d → P (accept_or_refuse bench d (carried_out (present bench.timeline) d)))
+      → P (elim r [ Ok d ↦ accept_or_refuse bench d (carried_out (present bench.timeline) d) | Err f ↦ (fault f, bench) ])
+  by_deed (Ok d) p q = q d refl
+  by_deed (Err f) p q = p f refl
 
-  -- a command of an object: refused by a test, or answered with the object's body
-  by_body : (who : Actor) (v : Json) (go : Body → Answer) → ((f : Fault) → IsTested bench v f → P (fault f, bench))
-      → ((body : Body) → command_body bench v ≡ Ok body → P (go body)) → P (with_body bench who v go)
-  by_body who v go p q =
-      one_of (not (is_manager_name who.name)) _ _ (p manager_name (inl refl))
-      (one_of (not (has_part bench.schema.kind who.part)) _ _ (p no_subresource (inr (inl refl)))
-      (of_body (command_body bench v) go (λ f e. p f (inr (inr e))) q))
-
-  by_result : (word : Text) (label : Label) (r : Result State Refusal) → ((s : State) → P (accept bench word label s))
-      → ((f : Refusal) → r ≡ Err f → P (fault (refused f), bench)) → P (accept_or_refuse bench word label r)
-  by_result word label (Ok s) p q = p s
-  by_result word label (Err f) p q = q f refl
+  by_result : (d : Deed) (r : Result State Refusal) → ((s : State) → P (accept bench d s))
+      → ((f : Refusal) → r ≡ Err f → P (fault (refused f), bench)) → P (accept_or_refuse bench d r)
+  by_result d (Ok s) p q = p s
+  by_result d (Err f) p q = q f refl
 
 -- ---- refusals
 
@@ -92,19 +87,17 @@ module _ (bench : Bench) where
   leaves-refused : (f : Fault) → Leaves (fault f, bench)
   leaves-refused f g h = refl
 
-  leaves-accepted : (word : Text) (label : Label) (s : State) → Leaves (accept bench word label s)
-  leaves-accepted word label s g h = cc
+  leaves-accepted : (d : Deed) (s : State) → Leaves (accept bench d s)
+  leaves-accepted d s g h = cc
 
   leaves-moved : (word : Text) (past future n : ℕ) → Leaves (moved word past future, with_timeline bench (moved_to bench.timeline n))
   leaves-moved word past future n g h = cc
 
-  leaves-made : (word : Text) (label : Label) (r : Result State Refusal) → Leaves (accept_or_refuse bench word label r)
-  leaves-made word label r = by_result bench Leaves word label r (leaves-accepted word label) (λ f _. leaves-refused (refused f))
+  leaves-made : (d : Deed) (r : Result State Refusal) → Leaves (accept_or_refuse bench d r)
+  leaves-made d r = by_result bench Leaves d r (leaves-accepted d) (λ f _. leaves-refused (refused f))
 
-  leaves : (c : Command) → Leaves (answer bench c)
-  leaves (apply who force at v) = by_body bench Leaves who v _ (λ f _. leaves-refused f) (λ body _. leaves-made _ _ _)
-  leaves (update who at v) = by_body bench Leaves who v _ (λ f _. leaves-refused f) (λ body _. leaves-made _ _ _)
-  leaves strip = leaves-accepted (codes "strip") stripped (operations.strip (present bench.timeline))
+  leaves : (c : BenchCommand) → Leaves (answer bench c)
+  leaves (change c) = by_deed bench Leaves (deed_of bench c) (λ f _. leaves-refused f) (λ d _. leaves-made d _)
   leaves undo = one_of bench Leaves (past_len bench.timeline == 0) _ _ (leaves-refused nothing_to_undo)
       (leaves-moved (codes "undo") (past_len bench.timeline - 1) (future_len bench.timeline + 1) (bench.timeline.place - 1))
   leaves redo = one_of bench Leaves (future_len bench.timeline == 0) _ _ (leaves-refused nothing_to_redo)
@@ -122,24 +115,22 @@ refusals_change_nothing bench c = leaves bench c
 module _ (bench : Bench) where
   -- an accepted command puts its state behind the present one
   abbrev Appends : Answer → Type 0
-  Appends a = is_accepted a.0 ≡ true → (label : Label) × (s : State) × (a.1 ≡ advanced bench label s)
+  Appends a = made_a_state a.0 ≡ true → (label : Label) × (s : State) × (a.1 ≡ advanced bench label s)
 
   appends-refused : (f : Fault) → Appends (fault f, bench)
   appends-refused f h = cc
 
-  appends-accepted : (word : Text) (label : Label) (s : State) → Appends (accept bench word label s)
-  appends-accepted word label s h = (label, s, refl)
+  appends-accepted : (d : Deed) (s : State) → Appends (accept bench d s)
+  appends-accepted d s h = (label_of d, s, refl)
 
   appends-moved : (word : Text) (past future n : ℕ) → Appends (moved word past future, with_timeline bench (moved_to bench.timeline n))
   appends-moved word past future n h = cc
 
-  appends-made : (word : Text) (label : Label) (r : Result State Refusal) → Appends (accept_or_refuse bench word label r)
-  appends-made word label r = by_result bench Appends word label r (appends-accepted word label) (λ f _. appends-refused (refused f))
+  appends-made : (d : Deed) (r : Result State Refusal) → Appends (accept_or_refuse bench d r)
+  appends-made d r = by_result bench Appends d r (appends-accepted d) (λ f _. appends-refused (refused f))
 
-  appends : (c : Command) → Appends (answer bench c)
-  appends (apply who force at v) = by_body bench Appends who v _ (λ f _. appends-refused f) (λ body _. appends-made _ _ _)
-  appends (update who at v) = by_body bench Appends who v _ (λ f _. appends-refused f) (λ body _. appends-made _ _ _)
-  appends strip = appends-accepted (codes "strip") stripped (operations.strip (present bench.timeline))
+  appends : (c : BenchCommand) → Appends (answer bench c)
+  appends (change c) = by_deed bench Appends (deed_of bench c) (λ f _. appends-refused f) (λ d _. appends-made d _)
   appends undo = one_of bench Appends (past_len bench.timeline == 0) _ _ (appends-refused nothing_to_undo)
       (appends-moved (codes "undo") (past_len bench.timeline - 1) (future_len bench.timeline + 1) (bench.timeline.place - 1))
   appends redo = one_of bench Appends (future_len bench.timeline == 0) _ _ (appends-refused nothing_to_redo)
@@ -314,6 +305,20 @@ no-conflict bench (object ms) cs h =
 no-conflict bench (list vs) cs h = absurd cc
 no-conflict bench (scalar s) cs h = absurd cc
 
+-- what refuses a command before it is carried out
+by-test : (bench : Bench) (v : Json) (nameless apart : Bool) (f : Fault)
+    → (if nameless then Err manager_name else (if apart then Err no_subresource else command_body bench v)) ≡ Err f → IsTested bench v f
+by-test bench v true apart f h = inl cc
+by-test bench v false true f h = inr (inl cc)
+by-test bench v false false f h = inr (inr h)
+
+-- what is given, where nothing refuses it
+by-none : (r : Result Body Fault) (nameless apart : Bool) (body : Body)
+    → (if nameless then Err manager_name else (if apart then Err no_subresource else r)) ≡ Ok body → r ≡ Ok body
+by-none r true apart body h = absurd cc
+by-none r false true body h = absurd cc
+by-none r false false body h = h
+
 tested-no_conflict : (bench : Bench) (v : Json) (cs : List Clash) (f : Fault) → IsTested bench v f → f ≡ refused (conflict cs) → ⊥
 tested-no_conflict bench v cs f (inl named) h = absurd cc
 tested-no_conflict bench v cs f (inr (inl apart)) h = absurd cc
@@ -337,12 +342,13 @@ module _ (bench : Bench) (who : Actor) (force : Bool) (v : Json) where
       seated true h = cc
       seated false h = cc
 
-  lists-config : (at : Text) (config : Body) → command_body bench v ≡ Ok config → Lists (apply_answer bench who force at config)
-  lists-config at config is =
+  lists-config : (config : Body) → command_body bench v ≡ Ok config
+      → Lists (accept_or_refuse bench (apply who force config) (carried_out (present bench.timeline) (apply who force config)))
+  lists-config config is =
       let a = key_of applies who in
       let own = part_of who.part config in
       let now = present bench.timeline in
-      by_result bench Lists _ _ (operations.apply now a config force at)
+      by_result bench Lists (apply who force config) (operations.apply now a config force who.moment)
       (λ s cs h. cc)
       (λ f e cs h.
       let same : f ≡ conflict cs = cc in
@@ -350,12 +356,16 @@ module _ (bench : Bench) (who : Actor) (force : Bool) (v : Json) where
       let found = refused_by (not (force || is_none clash)) (nat_lt most_places (size (pruned now a own))) clash cs _ (e ∙ ap Err same) in
       record { config = config; body = is; unforced = unforced force (is_none clash) found.0; listed = found.1 })
 
-  lists : (at : Text) → Lists (answer bench (apply who force at v))
-  lists at = by_body bench Lists who v (apply_answer bench who force at) other (lists-config at)
-    where
-      other : (f : Fault) → IsTested bench v f → Lists (fault f, bench)
-      other f tested cs h = let same : f ≡ refused (conflict cs) = cc in absurd (tested-no_conflict bench v cs f tested same)
+  lists-body : (r : Result Body Fault) → actor_body bench who v ≡ r
+      → Lists (elim (map_ok (apply who force) r) [ Ok d ↦ accept_or_refuse bench d (carried_out (present bench.timeline) d) | Err f ↦ (fault f, bench) ])
+  lists-body (Ok config) e = lists-config config (by-none (command_body bench v) (not (is_manager_name who.name)) (not (has_part bench.schema.kind who.part)) config e)
+  lists-body (Err f) e = λ cs h.
+      let same : f ≡ refused (conflict cs) = cc in
+      absurd (tested-no_conflict bench v cs f (by-test bench v (not (is_manager_name who.name)) (not (has_part bench.schema.kind who.part)) f e) same)
+
+  lists : Lists (answer bench (change (apply who force v)))
+  lists = lists-body (actor_body bench who v) refl
 
 -- a conflict lists exactly the managers and fields concerned
 pub conflicts_list_clashes : ConflictsListClashes
-conflicts_list_clashes bench who force at v = lists bench who force v at
+conflicts_list_clashes bench who force v = lists bench who force v

@@ -13,11 +13,11 @@ use Rattle.ssa_model.specs.definitions.Schema.{Schema, SchemaFault, read_schema}
 use Rattle.ssa_model.specs.definitions.Kind.{Kind}
 use Rattle.ssa_model.specs.definitions.Lawful.{IsSchemaKind}
 use Rattle.ssa_model.specs.definitions.Objects.{is_identity}
-use Rattle.ssa_model.specs.definitions.Parts.{Subresource, main, status}
+use Rattle.ssa_model.specs.definitions.Parts.{Subresource, main, status, Actor}
 use Rattle.ssa_model.specs.definitions.Operations.{State}
 use Rattle.ssa_model.specs.definitions.Replies.{label_json}
 use Rattle.ssa_model.specs.definitions.Table.{Table}
-use Rattle.ssa_model.specs.definitions.History.{Label, applied, updated, stripped, Step, Bench, is_manager_name}
+use Rattle.ssa_model.specs.definitions.History.{Label, Step, Bench, is_manager_name}
 use Rattle.ssa_model.specs.definitions.Answers.{Fault, lone_bench, file_state, bench_with, bench_of}
 use Rattle.ssa_model.specs.definitions.BenchText.{states, head_of, head_json, whole_object, first_json, step_json, bench_values, bench_text}
 use Rattle.ssa_model.specs.definitions.Valid.{AllEntries, IsValidState, shared_managers, KeepsOrder, KeepsOrders}
@@ -25,6 +25,7 @@ use Rattle.ssa_model.specs.definitions.BenchFile.{IsReadBack, IsLabel, IsStep, I
 use Rattle.ssa_model.specs.definitions.Formats.{can_tell_label, can_tell_state, CanTellStep, CanTell}
 use Rattle.ssa_model.specs.definitions.BenchOfStates.{text_lines, spelled_values, given_if, is_written_as, Head, head_in, schema_in, lone_in, said_label, is_label, label_in, keeps_order, step_with, step_in, steps_in, with_steps, values_bench, bench_in}
 use Rattle.ssa_model.specs.definitions.Keys.{same_manager}
+use Rattle.ssa_model.specs.definitions.Commands.{apply, update, strip}
 use Rattle.ssa_model.specs.laws.BenchFiles.{BenchFilesAreTaken}
 use Rattle.ssa_model.proofs.LoneBenches.{lone-parts}
 use Rattle.ssa_model.proofs.ShownStates.{shown_state_is_deep}
@@ -68,29 +69,33 @@ lone-by v r lone is same tells =
 
 -- the test of labels is right
 pub is_label-by : (readings : Readings) (label : Label) → is_label readings label ≡ true → IsLabel readings label
-is_label-by readings (applied who force at) h = and_parts (is_manager_name who.name) (readings.moment at) h
-is_label-by readings (updated who at) h = and_parts (is_manager_name who.name) (readings.moment at) h
-is_label-by readings stripped h = tt
+is_label-by readings (apply who force o) h = and_parts (is_manager_name who.name) (readings.moment who.moment) h
+is_label-by readings (update who o) h = and_parts (is_manager_name who.name) (readings.moment who.moment) h
+is_label-by readings strip h = tt
 
 -- a label passes the test of labels
 pub is_label-of : (readings : Readings) (label : Label) → IsLabel readings label → is_label readings label ≡ true
-is_label-of readings (applied who force at) h = and_from (is_manager_name who.name) (readings.moment at) h.0 h.1
-is_label-of readings (updated who at) h = and_from (is_manager_name who.name) (readings.moment at) h.0 h.1
-is_label-of readings stripped h = refl
+is_label-of readings (apply who force o) h = and_from (is_manager_name who.name) (readings.moment who.moment) h.0 h.1
+is_label-of readings (update who o) h = and_from (is_manager_name who.name) (readings.moment who.moment) h.0 h.1
+is_label-of readings strip h = refl
+
+-- who acts, through this part
+abbrev in_part : Actor → Subresource → Actor
+in_part who s = record { name = who.name; part = s; moment = who.moment }
 
 -- the value that is written of a label says it
 pub said-back : (label : Label) → said_label (label_json label) ≡ label
-said-back (applied who force at) = by who.part
+said-back (apply who force o) = by who.part
   where
-    by : (s : Subresource) → said_label (label_json (applied (record { name = who.name; part = s }) force at)) ≡ applied (record { name = who.name; part = s }) force at
+    by : (s : Subresource) → said_label (label_json (apply (in_part who s) force o)) ≡ apply (in_part who s) force tt
     by main = refl
     by status = refl
-said-back (updated who at) = by who.part
+said-back (update who o) = by who.part
   where
-    by : (s : Subresource) → said_label (label_json (updated (record { name = who.name; part = s }) at)) ≡ updated (record { name = who.name; part = s }) at
+    by : (s : Subresource) → said_label (label_json (update (in_part who s) o)) ≡ update (in_part who s) tt
     by main = refl
     by status = refl
-said-back stripped = refl
+said-back strip = refl
 
 -- and from this value the label is taken
 pub label-back : (readings : Readings) (label : Label) → IsLabel readings label → label_in readings (label_json label) ≡ Some label

@@ -9,7 +9,7 @@ use Rattle.ssa_model.specs.definitions.ElementTexts.{ElementFault, bad_element, 
 use Rattle.ssa_model.specs.definitions.GivenEntries.{EntryFault, of_fields}
 use Rattle.ssa_model.specs.definitions.Readings.{Readings, ReadFault, not_json, null_value, number_outside}
 use Rattle.ssa_model.specs.definitions.History.{Bench}
-use Rattle.ssa_model.specs.definitions.Answers.{Command, Fault, Reply, answer, body_fault, entry_fault, refused, changed, moved, shown, owned_by, logged, fault}
+use Rattle.ssa_model.specs.definitions.Answers.{Fault, Reply, answer, body_fault, entry_fault, refused, changed, moved, shown, owned_by, logged, fault, BenchCommand}
 use Rattle.ssa_model.specs.definitions.Faults.{body_fault_code, element_fault_code, read_fault_code}
 use Rattle.ssa_model.specs.definitions.Replies.{entry_fault_json, fault_json, fault_json_at, fault_reply, refusal_json, reply_text}
 use Rattle.ssa_model.specs.definitions.Session.{LineFault, line_fault_code, unread, bad_moment, command_shape, of_element, answer_read, out_of_memory_text, read_line}
@@ -62,7 +62,7 @@ line_fault bad_moment = refl
 line_fault command_shape = refl
 line_fault (of_element f) = element f
 
-read : (readings : Readings) (bench : Bench) (r : Result Command LineFault) → IsOther (answer_read readings bench r).0
+read : (readings : Readings) (bench : Bench) (r : Result BenchCommand LineFault) → IsOther (answer_read readings bench r).0
 read readings bench (Ok c) = reply (answer bench c).0
 read readings bench (Err f) = line_fault f
 

@@ -12,7 +12,7 @@ use Rattle.ssa_model.specs.definitions.Table.{Entry, Table, is_in_table, entry_o
 use Rattle.ssa_model.specs.definitions.Json as json
 use Rattle.ssa_model.specs.definitions.Entries.{version_in}
 use Rattle.ssa_model.specs.definitions.Operations.{State}
-use Rattle.ssa_model.specs.definitions.History.{Label, applied, updated, stripped, Bench}
+use Rattle.ssa_model.specs.definitions.History.{Label, Bench}
 use Rattle.ssa_model.specs.definitions.Replies.{label_json}
 use Rattle.ssa_model.specs.definitions.Record.{Change, Record, change_to, is_unchanged, change_of, changes, gone_from, placed, record_of}
 use Rattle.ssa_model.specs.definitions.RecordText.{change_json, here_json, record_json}
@@ -22,6 +22,7 @@ use Rattle.ssa_model.specs.definitions.BenchText.{Format}
 use Rattle.ssa_model.specs.definitions.RecordedBench.{record_line}
 use Rattle.ssa_model.specs.definitions.Formats.{is_main, is_main_label, is_main_state, tells_parts, can_tell_label, can_tell_state, can_tell_line}
 use Rattle.ssa_model.specs.definitions.Values.{list_json, Test}
+use Rattle.ssa_model.specs.definitions.Commands.{apply, update, strip}
 
 -- ---- what a written line tells
 
@@ -62,17 +63,17 @@ here-tells version e = by e.1.manager.part
     by status = refl
 
 label-tells : (label : Label) → has_subresource (label_json label) ≡ not (is_main_label label)
-label-tells (applied who force at) = by who.part
+label-tells (apply who force o) = by who.part
   where
-    by : (s : Subresource) → has_subresource (label_json (applied (record { name = who.name; part = s }) force at)) ≡ not (is_main s)
+    by : (s : Subresource) → has_subresource (label_json (apply (record { name = who.name; part = s; moment = who.moment }) force o)) ≡ not (is_main s)
     by main = refl
     by status = refl
-label-tells (updated who at) = by who.part
+label-tells (update who o) = by who.part
   where
-    by : (s : Subresource) → has_subresource (label_json (updated (record { name = who.name; part = s }) at)) ≡ not (is_main s)
+    by : (s : Subresource) → has_subresource (label_json (update (record { name = who.name; part = s; moment = who.moment }) o)) ≡ not (is_main s)
     by main = refl
     by status = refl
-label-tells stripped = refl
+label-tells strip = refl
 
 abbrev changed_tell : Record → Bool
 changed_tell d = list_any (λ c. other c.manager) d.table.changed

@@ -13,11 +13,12 @@ use Rattle.ssa_model.specs.definitions.Table.{owned_by, Table}
 use Rattle.ssa_model.specs.definitions.Parts.{Actor, part_of, spliced}
 use Rattle.ssa_model.specs.definitions.Operations as operations
 use Rattle.ssa_model.specs.definitions.Operations.{State, Refusal}
-use Rattle.ssa_model.specs.definitions.History.{moved_to, advanced, forgotten, future_len, Label, applied, updated, stripped, Step, Bench, last_state, present, past_len, appended, with_timeline, is_manager_name}
-use Rattle.ssa_model.specs.definitions.Answers.{lone_state, Answer, Command, apply, update, strip, undo, redo, show, owners, log, Fault, fault, moved, nothing_to_undo, nothing_to_redo, refused, manager_name, no_subresource, has_part, command_body, accept, accept_or_refuse, apply_answer, with_body, answer}
-use Rattle.ssa_model.specs.definitions.Effect.{is_accepted}
+use Rattle.ssa_model.specs.definitions.History.{moved_to, advanced, forgotten, future_len, Label, Step, Bench, last_state, present, past_len, appended, with_timeline, is_manager_name}
+use Rattle.ssa_model.specs.definitions.Answers.{lone_state, Answer, Fault, fault, moved, nothing_to_undo, nothing_to_redo, refused, manager_name, no_subresource, has_part, command_body, accept, accept_or_refuse, answer, BenchCommand, Deed, label_of, carried_out, actor_body}
+use Rattle.ssa_model.specs.definitions.Commands.{apply, update, strip, undo, redo, show, owners, log, change, map_ok}
 use Rattle.ssa_model.specs.definitions.Valid.{MakesValid, IsValidHistory, IsValidState, has_distinct_keys, KeepsOrder, KeepsOrders, MakesNamed, IsNextStep}
 use Rattle.ssa_model.specs.definitions.Keys.{ManagerKey, key_of, applies, updates}
+use Rattle.ssa_model.specs.definitions.Effect.{made_a_state}
 use Rattle.ssa_model.specs.laws.KeepsValid.{AcceptedGoesOn, NextKeepsHistory}
 use Rattle.ssa_model.proofs.Accepted.{applied_is, updated_is}
 use Rattle.ssa_model.proofs.SharedManagers.{operations_keep_order}
@@ -93,63 +94,66 @@ module _ (bench : Bench) (distinct : has_distinct_keys (present bench.timeline).
   now = present bench.timeline
 
   abbrev GoesOn : Answer → Type 0
-  GoesOn a = is_accepted a.0 ≡ true → (label : Label) × (s : State) × (a.1 ≡ advanced bench label s) × IsNextStep bench.timeline label s
+  GoesOn a = made_a_state a.0 ≡ true → (label : Label) × (s : State) × (a.1 ≡ advanced bench label s) × IsNextStep bench.timeline label s
 
-  by : (a : Answer) → is_accepted a.0 ≡ false → GoesOn a
+  by : (a : Answer) → made_a_state a.0 ≡ false → GoesOn a
   by a never e = absurd (true≢false (sym e ∙ never))
 
   refusal : (f : Fault) → GoesOn (fault f, bench)
   refusal f = by (fault f, bench) refl
 
-  accepted : (word : Text) (label : Label) (s : State) → IsNextStep bench.timeline label s → GoesOn (accept bench word label s)
-  accepted word label s h e = (label, s, refl, h)
+  accepted : (d : Deed) (s : State) → IsNextStep bench.timeline (label_of d) s → GoesOn (accept bench d s)
+  accepted d s h e = (label_of d, s, refl, h)
 
   unless : (b : Bool) (x y : Answer) → GoesOn x → (b ≡ false → GoesOn y) → GoesOn (if b then x else y)
   unless true x y p q = p
   unless false x y p q = q refl
 
-  of_body : (r : Result Body Fault) (go : Body → Answer) → ((body : Body) → GoesOn (go body)) → GoesOn (elim r [ Ok body ↦ go body | Err f ↦ (fault f, bench) ])
-  of_body (Ok body) go p = p body
-  of_body (Err f) go p = refusal f
+  made : (d : Deed) (r : Result State Refusal) → ((s : State) → r ≡ Ok s → IsNextStep bench.timeline (label_of d) s)
+      → GoesOn (accept_or_refuse bench d r)
+  made d (Ok s) p = accepted d s (p s refl)
+  made d (Err f) p = refusal (refused f)
 
-  tested : (who : Actor) (v : Json) (go : Body → Answer) → (is_manager_name who.name ≡ true → (body : Body)
-      → GoesOn (go body)) → GoesOn (with_body bench who v go)
-  tested who v go p =
-      unless (not (is_manager_name who.name)) _ _ (refusal manager_name)
-      (λ named. unless (not (has_part bench.schema.kind who.part)) _ _ (refusal no_subresource)
-      (λ _. of_body (command_body bench v) go (p (named-of _ named))))
+  of_body : (r : Result Body Fault) (deed : Body → Deed)
+      → ((body : Body) → r ≡ Ok body → GoesOn (accept_or_refuse bench (deed body) (carried_out now (deed body))))
+      → GoesOn (elim (map_ok deed r) [ Ok d ↦ accept_or_refuse bench d (carried_out now d) | Err f ↦ (fault f, bench) ])
+  of_body (Ok body) deed p = p body refl
+  of_body (Err f) deed p = refusal f
 
-  made : (word : Text) (label : Label) (r : Result State Refusal) → ((s : State) → r ≡ Ok s → IsNextStep bench.timeline label s)
-      → GoesOn (accept_or_refuse bench word label r)
-  made word label (Ok s) p = accepted word label s (p s refl)
-  made word label (Err f) p = refusal (refused f)
+  is-named : (nameless apart : Bool) (r : Result Body Fault) (body : Body)
+      → (if nameless then Err manager_name else (if apart then Err no_subresource else r)) ≡ Ok body → nameless ≡ false
+  is-named true apart r body h = absurd cc
+  is-named false apart r body h = refl
 
-  applying : (who : Actor) (force : Bool) (at : Text) → is_manager_name who.name ≡ true → (config : Body)
-      → GoesOn (apply_answer bench who force at config)
-  applying who force at named config =
+  named : (who : Actor) (v : Json) (body : Body) → actor_body bench who v ≡ Ok body → is_manager_name who.name ≡ true
+  named who v body h = named-of _ (is-named (not (is_manager_name who.name)) (not (has_part bench.schema.kind who.part)) (command_body bench v) body h)
+
+  applying : (who : Actor) (force : Bool) (config : Body) → is_manager_name who.name ≡ true
+      → GoesOn (accept_or_refuse bench (apply who force config) (carried_out now (apply who force config)))
+  applying who force config named =
       let a = key_of applies who in
       let own = part_of who.part config in
-      made (codes "apply") (applied who force at) (operations.apply now a config force at)
+      made (apply who force config) (operations.apply now a config force who.moment)
       (λ s ok. record {
-        order = subst (λ (x : State). KeepsOrder now.table x.table) (applied_is now s a config force at ok).0
+        order = subst (λ (x : State). KeepsOrder now.table x.table) (applied_is now s a config force who.moment ok).0
             (operations_keep_order now.table a (union (points own) (operations.owned_outside now.table a)) (modified now.body (operations.pruned now a own))
-            (modified now.body (operations.pruned now a own)) at distinct);
+            (modified now.body (operations.pruned now a own)) who.moment distinct);
         named = named;
       })
 
   abbrev owned_after : ManagerKey → Body → PathSet
   owned_after u object = union (minus (owned_by now.table u) (removed now.body object)) (union (modified now.body object) (added now.body object))
 
-  updating : (who : Actor) (at : Text) → is_manager_name who.name ≡ true → (object : Body)
-      → GoesOn (accept_or_refuse bench (codes "update") (updated who at) (operations.update now (key_of updates who) object at))
-  updating who at named object =
+  updating : (who : Actor) (object : Body) → is_manager_name who.name ≡ true
+      → GoesOn (accept_or_refuse bench (update who object) (carried_out now (update who object)))
+  updating who object named =
       let u = key_of updates who in
       let whole = spliced who.part object now.body in
-      made (codes "update") (updated who at) (operations.update now u object at)
+      made (update who object) (operations.update now u object who.moment)
       (λ s ok. record {
-        order = subst (λ (x : State). KeepsOrder now.table x.table) (updated_is now s u object at ok).0
+        order = subst (λ (x : State). KeepsOrder now.table x.table) (updated_is now s u object who.moment ok).0
             (operations_keep_order now.table u (owned_after u whole) (union (modified now.body whole) (removed now.body whole))
-            (modified now.body whole) at distinct);
+            (modified now.body whole) who.moment distinct);
         named = named;
       })
 
@@ -160,10 +164,10 @@ module _ (bench : Bench) (distinct : has_distinct_keys (present bench.timeline).
   moved-on : (word : Text) (past future n : ℕ) → GoesOn (moved word past future, with_timeline bench (moved_to bench.timeline n))
   moved-on word past future n = by (moved word past future, with_timeline bench (moved_to bench.timeline n)) refl
 
-  goes-on : (c : Command) → GoesOn (answer bench c)
-  goes-on (apply who force at v) = tested who v _ (applying who force at)
-  goes-on (update who at v) = tested who v _ (updating who at)
-  goes-on strip = accepted (codes "strip") stripped (operations.strip now) (record { order = none-shared now.table; named = refl })
+  goes-on : (c : BenchCommand) → GoesOn (answer bench c)
+  goes-on (change (apply who force v)) = of_body (actor_body bench who v) (apply who force) (λ config e. applying who force config (named who v config e))
+  goes-on (change (update who v)) = of_body (actor_body bench who v) (update who) (λ body e. updating who body (named who v body e))
+  goes-on (change strip) = accepted strip (operations.strip now) (record { order = none-shared now.table; named = refl })
   goes-on undo = unless (past_len bench.timeline == 0) _ _ (refusal nothing_to_undo)
       (λ _. moved-on (codes "undo") (past_len bench.timeline - 1) (future_len bench.timeline + 1) (bench.timeline.place - 1))
   goes-on redo = unless (future_len bench.timeline == 0) _ _ (refusal nothing_to_redo)

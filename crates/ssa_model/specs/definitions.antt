@@ -38,10 +38,10 @@ pub mod ElementTexts
 pub mod FieldsV1
 -- the entries of `managedFields`, written
 pub mod Entries
+-- what commands may be, and which JSON values are commands
+pub mod Commands
 -- the history of a bench: all its states in a row, and a place among them
 pub mod History
--- which JSON values are commands
-pub mod Commands
 -- the entries that an object file gives: the table that they say, or their first fault
 pub mod GivenEntries
 -- the answer to a command, the answers to a list of commands, a bench from an object file

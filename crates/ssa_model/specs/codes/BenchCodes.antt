@@ -8,9 +8,10 @@ use Rattle.ssa_model.specs.definitions.Json.{Text, Json}
 use Rattle.ssa_model.specs.definitions.Kind.{ScalarKind, texts, wholes, truths, Shape, scalar_shape, record_shape, dict_shape, list_shape, ShapeFields, no_shape_fields, shape_field, Kind, scalar_kind, atomic_of, record_of, dict_of, set_of, items_of, Fields, no_fields, kind_field}
 use Rattle.ssa_model.specs.definitions.Parts.{Actor}
 use Rattle.ssa_model.specs.definitions.Operations.{State}
-use Rattle.ssa_model.specs.definitions.History.{Label, applied, updated, stripped, Step, Timeline, Bench}
+use Rattle.ssa_model.specs.definitions.History.{Label, Step, Timeline, Bench}
 use Rattle.ssa_model.specs.definitions.Schema.{Schema}
 use Rattle.ssa_model.specs.definitions.Objects.{Identity}
+use Rattle.ssa_model.specs.definitions.Commands.{apply, update, strip}
 use Rattle.ssa_model.specs.codes.Codes.{coded_text, coded_json, coded_state, part_bit, bit_part, bit_part-part_bit, first_part, second_part}
 
 abbrev pub scalar_kind_bits : ScalarKind → Bool × Bool
@@ -143,31 +144,32 @@ coded_kind = record { code = code_kind; inj = kind-inj }
 
 -- ---- histories
 
-pub actor_back : (a : Actor) → ◌≡◌ {A = Actor} (record { name = a.name; part = bit_part (part_bit a.part) }) a
-actor_back a = λ i. record { name = a.name; part = bit_part-part_bit a.part i }
+pub actor_back : (a : Actor) → ◌≡◌ {A = Actor} (record { name = a.name; part = bit_part (part_bit a.part); moment = a.moment }) a
+actor_back a = λ i. record { name = a.name; part = bit_part-part_bit a.part i; moment = a.moment }
 
 abbrev pub coded_actor : Coded Actor
-coded_actor = code_by (Text × Bool) (coded× coded_text coded_bool) (λ a. (a.name, part_bit a.part)) (λ p. record { name = p.0; part = bit_part p.1 }) actor_back
+coded_actor =
+    code_by (Text × (Bool × Text)) (coded× coded_text (coded× coded_bool coded_text)) (λ a. (a.name, (part_bit a.part, a.moment)))
+    (λ p. record { name = p.0; part = bit_part p.1.0; moment = p.1.1 }) actor_back
 
-abbrev pub label_cases : Label → (Actor × (Bool × Text)) ⊎ ((Actor × Text) ⊎ Bool)
-label_cases (applied who force at) = inl (who, (force, at))
-label_cases (updated who at) = inr (inl (who, at))
-label_cases stripped = inr (inr Bool.true)
+abbrev pub label_cases : Label → (Actor × Bool) ⊎ (Actor ⊎ Bool)
+label_cases (apply who force o) = inl (who, force)
+label_cases (update who o) = inr (inl who)
+label_cases strip = inr (inr Bool.true)
 
-abbrev pub cases_label : (Actor × (Bool × Text)) ⊎ ((Actor × Text) ⊎ Bool) → Label
-cases_label (inl a) = applied a.0 a.1.0 a.1.1
-cases_label (inr (inl u)) = updated u.0 u.1
-cases_label (inr (inr b)) = stripped
+abbrev pub cases_label : (Actor × Bool) ⊎ (Actor ⊎ Bool) → Label
+cases_label (inl a) = apply a.0 a.1 tt
+cases_label (inr (inl who)) = update who tt
+cases_label (inr (inr b)) = strip
 
 pub cases_label-label_cases : (l : Label) → cases_label (label_cases l) ≡ l
-cases_label-label_cases (applied who force at) = refl
-cases_label-label_cases (updated who at) = refl
-cases_label-label_cases stripped = refl
+cases_label-label_cases (apply who force o) = refl
+cases_label-label_cases (update who o) = refl
+cases_label-label_cases strip = refl
 
 abbrev pub coded_label : Coded Label
 coded_label =
-    code_by ((Actor × (Bool × Text)) ⊎ ((Actor × Text) ⊎ Bool))
-    (coded⊎ (coded× coded_actor (coded× coded_bool coded_text)) (coded⊎ (coded× coded_actor coded_text) coded_bool)) label_cases cases_label
+    code_by ((Actor × Bool) ⊎ (Actor ⊎ Bool)) (coded⊎ (coded× coded_actor coded_bool) (coded⊎ coded_actor coded_bool)) label_cases cases_label
     cases_label-label_cases
 
 abbrev pub coded_step : Coded Step

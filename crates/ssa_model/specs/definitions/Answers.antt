@@ -16,8 +16,9 @@ use Rattle.ssa_model.specs.definitions.Readings.{Readings}
 use Rattle.ssa_model.specs.definitions.Keys.{applies, updates, ManagerKey, key_of}
 use Rattle.ssa_model.specs.definitions.Entries.{object_of_state}
 use Rattle.ssa_model.specs.definitions.GivenEntries.{EntryFault, table_of}
-use Rattle.ssa_model.specs.definitions.History.{Label, applied, updated, stripped, Timeline, Bench, present, past_len, future_len, advanced, moved_to, with_timeline, is_manager_name}
+use Rattle.ssa_model.specs.definitions.History.{Label, Timeline, Bench, present, past_len, future_len, advanced, moved_to, with_timeline, is_manager_name}
 use Rattle.ssa_model.specs.definitions.Values.{text_in}
+use Rattle.ssa_model.specs.definitions.Commands.{Change, apply, update, strip, Command, change, undo, redo, show, owners, log, word_of, change_read}
 
 pub data Fault : Type 0 where
   body_fault : BodyFault → Path → Fault
@@ -105,17 +106,24 @@ module _ (readings : Readings) where
 
 -- ---- commands on a bench
 
--- A command whose moment is one, and whose path is read.
-pub data Command : Type 0 where
-  apply : Actor → Bool → Text → Json → Command
-  update : Actor → Text → Json → Command
-  strip : Command
-  undo : Command
-  redo : Command
-  -- with the managers' entries
-  show : Bool → Command
-  owners : Path → Command
-  log : Command
+-- a command whose moment is one, and whose path is read
+abbrev pub BenchCommand : Type 0
+BenchCommand = Command Json Path
+
+-- a change with the body of its object
+abbrev pub Deed : Type 0
+Deed = Change Body
+
+abbrev pub label_of : Deed → Label
+label_of (apply who force body) = apply who force tt
+label_of (update who body) = update who tt
+label_of strip = strip
+
+-- the state that a deed makes of a state
+abbrev pub carried_out : State → Deed → Result State Refusal
+carried_out s (apply who force config) = operations.apply s (key_of applies who) config force who.moment
+carried_out s (update who body) = operations.update s (key_of updates who) body who.moment
+carried_out s strip = Ok (operations.strip s)
 
 pub record Changed : Type 0 where
   pub added : PathSet
@@ -141,12 +149,12 @@ Answer = Reply × Bench
 abbrev pub comparison : State → State → Changed
 comparison v w = record { added = added v.body w.body; modified = modified v.body w.body; removed = removed v.body w.body; managers = length w.table }
 
-abbrev pub accept : Bench → Text → Label → State → Answer
-accept bench word label s = (changed word (comparison (present bench.timeline) s), advanced bench label s)
+abbrev pub accept : Bench → Deed → State → Answer
+accept bench d s = (changed (word_of d) (comparison (present bench.timeline) s), advanced bench (label_of d) s)
 
-abbrev pub accept_or_refuse : Bench → Text → Label → Result State Refusal → Answer
-accept_or_refuse bench word label (Ok s) = accept bench word label s
-accept_or_refuse bench word label (Err r) = (fault (refused r), bench)
+abbrev pub accept_or_refuse : Bench → Deed → Result State Refusal → Answer
+accept_or_refuse bench d (Ok s) = accept bench d s
+accept_or_refuse bench d (Err r) = (fault (refused r), bench)
 
 -- the schema has what the part is of
 abbrev pub has_part : Kind → Subresource → Bool
@@ -154,12 +162,14 @@ has_part kind main = true
 has_part (record_of fs) status = is_some (kind_of (codes "status") fs)
 has_part _ status = false
 
--- with the body of the object, or refused before it
-abbrev pub with_body : Bench → Actor → Json → (Body → Answer) → Answer
-with_body bench who v go =
-    if not (is_manager_name who.name) then (fault manager_name, bench)
-    else (if not (has_part bench.schema.kind who.part) then (fault no_subresource, bench)
-    else (elim (command_body bench v) [ Ok body ↦ go body | Err f ↦ (fault f, bench) ]))
+-- the body of the object of one who acts, or the first fault of both
+abbrev pub actor_body : Bench → Actor → Json → Result Body Fault
+actor_body bench who v =
+    if not (is_manager_name who.name) then Err manager_name
+    else (if not (has_part bench.schema.kind who.part) then Err no_subresource else command_body bench v)
+
+abbrev pub deed_of : Bench → Change Json → Result Deed Fault
+deed_of bench = change_read (actor_body bench)
 
 abbrev pub owners_of : Table → Path → List ManagerKey
 owners_of table p = map (λ e. e.manager) (filter (λ e. has e.owned p) table)
@@ -167,17 +177,8 @@ owners_of table p = map (λ e. e.manager) (filter (λ e. has e.owned p) table)
 abbrev pub labels_of : Bench → List Label
 labels_of bench = map (λ s. s.label) bench.timeline.later
 
-abbrev pub apply_answer : Bench → Actor → Bool → Text → Body → Answer
-apply_answer bench who force at config =
-    accept_or_refuse bench (codes "apply") (applied who force at)
-    (operations.apply (present bench.timeline) (key_of applies who) config force at)
-
-abbrev pub answer : Bench → Command → Answer
-answer bench (apply who force at v) = with_body bench who v (apply_answer bench who force at)
-answer bench (update who at v) =
-    with_body bench who v (λ body. accept_or_refuse bench (codes "update") (updated who at)
-    (operations.update (present bench.timeline) (key_of updates who) body at))
-answer bench strip = accept bench (codes "strip") stripped (operations.strip (present bench.timeline))
+abbrev pub answer : Bench → BenchCommand → Answer
+answer bench (change c) = elim (deed_of bench c) [ Ok d ↦ accept_or_refuse bench d (carried_out (present bench.timeline) d) | Err f ↦ (fault f, bench) ]
 answer bench undo =
     if past_len bench.timeline == 0 then (fault nothing_to_undo, bench)
     else (
@@ -194,6 +195,6 @@ answer bench (show managed) = (shown (object_of_state bench.identity bench.schem
 answer bench (owners p) = (owned_by (owners_of (present bench.timeline).table p), bench)
 answer bench log = (logged (take bench.timeline.place (labels_of bench)) (drop bench.timeline.place (labels_of bench)), bench)
 
-abbrev pub run : Bench → List Command → List Reply × Bench
+abbrev pub run : Bench → List BenchCommand → List Reply × Bench
 run bench [] = ([], bench)
 run bench (c ∷ cs) = let first = answer bench c in let rest = run first.1 cs in (first.0 ∷ rest.0, rest.1)

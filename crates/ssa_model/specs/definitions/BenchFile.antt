@@ -1,5 +1,5 @@
 -- Valid benches, and which values are read from their texts.
-use Rattle.std.specs.Prelude.{◌≡◌, ◌≤◌, true, length, Ok, []}
+use Rattle.std.specs.Prelude.{◌≡◌, ◌≤◌, true, length, Ok, [], Some, None}
 use Rattle.std.specs.List.{All}
 use Rattle.ssa_model.specs.definitions.Limits.{most_past}
 use Rattle.ssa_model.specs.definitions.Json.{Json, compact}
@@ -9,8 +9,9 @@ use Rattle.ssa_model.specs.definitions.Schema.{read_schema}
 use Rattle.ssa_model.specs.definitions.Objects.{is_identity}
 use Rattle.ssa_model.specs.definitions.Lawful.{IsSchemaKind}
 use Rattle.ssa_model.specs.definitions.Table.{Entry}
-use Rattle.ssa_model.specs.definitions.History.{Label, applied, updated, stripped, Step, Bench, is_manager_name}
+use Rattle.ssa_model.specs.definitions.History.{Label, Step, Bench, is_manager_name}
 use Rattle.ssa_model.specs.definitions.Valid.{AllEntries, KeepsOrders, AllValid}
+use Rattle.ssa_model.specs.definitions.Commands.{actor_of}
 
 -- the entry's set is read from its writing, and its moment is one
 pub record IsReadBack (readings : Readings) (e : Entry) : Type 0 where
@@ -21,9 +22,7 @@ pub record IsReadBack (readings : Readings) (e : Entry) : Type 0 where
 -- ---- valid benches
 
 abbrev pub IsLabel : Readings → Label → Type 0
-IsLabel readings (applied who force at) = (is_manager_name who.name ≡ true) × (readings.moment at ≡ true)
-IsLabel readings (updated who at) = (is_manager_name who.name ≡ true) × (readings.moment at ≡ true)
-IsLabel readings stripped = Unit {0}
+IsLabel readings l = elim (actor_of l) [ Some who ↦ (is_manager_name who.name ≡ true) × (readings.moment who.moment ≡ true) | None ↦ Unit {0} ]
 
 -- what a later state of a bench is, beside being valid
 pub record IsStep (readings : Readings) (s : Step) : Type 0 where

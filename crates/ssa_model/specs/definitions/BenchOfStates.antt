@@ -5,18 +5,18 @@ use Rattle.std.specs.Cmp.Lexicographic.{pointwise}
 use Rattle.ssa_model.specs.definitions.Limits.{most_past, most_bench_bytes}
 use Rattle.ssa_model.specs.definitions.Json.{Text, Json, scalar, whole, compact, same_text, member_at}
 use Rattle.ssa_model.specs.definitions.Readings.{Readings}
-use Rattle.ssa_model.specs.definitions.Values.{text_in, truth_in, value_in}
-use Rattle.ssa_model.specs.definitions.Parts.{Actor}
+use Rattle.ssa_model.specs.definitions.Values.{value_in, text_at}
 use Rattle.ssa_model.specs.definitions.Schema.{Schema, read_schema}
 use Rattle.ssa_model.specs.definitions.Table.{Table}
 use Rattle.ssa_model.specs.definitions.Operations.{State}
-use Rattle.ssa_model.specs.definitions.History.{Label, applied, updated, stripped, Step, Bench, is_manager_name, with_timeline}
+use Rattle.ssa_model.specs.definitions.History.{Label, Step, Bench, is_manager_name, with_timeline}
 use Rattle.ssa_model.specs.definitions.Answers.{bench_of, file_state}
 use Rattle.ssa_model.specs.definitions.Lines.{split_lines}
 use Rattle.ssa_model.specs.definitions.BenchText.{states, head_of, first_json, step_json}
 use Rattle.ssa_model.specs.definitions.Valid.{shared_managers}
 use Rattle.ssa_model.specs.definitions.Formats.{can_tell_label, can_tell_state}
-use Rattle.ssa_model.specs.definitions.Keys.{subresource_in, same_manager}
+use Rattle.ssa_model.specs.definitions.Keys.{same_manager}
+use Rattle.ssa_model.specs.definitions.Commands.{actor_of, said_change}
 
 -- ---- the values of the lines
 
@@ -76,17 +76,10 @@ lone_in readings schema v =
 
 -- the label that a command's word and members say
 abbrev pub said_label : Json → Label
-said_label v =
-    let word = text_in (member_at (codes "do") v) in
-    let who : Actor = record { name = text_in (member_at (codes "manager") v); part = subresource_in (member_at (codes "subresource") v) } in
-    let at = text_in (member_at (codes "at") v) in
-    if same_text word (codes "apply") then applied who (truth_in (member_at (codes "force") v)) at
-    else (if same_text word (codes "update") then updated who at else stripped)
+said_label v = said_change (text_at (codes "do") v) v tt
 
 abbrev pub is_label : Readings → Label → Bool
-is_label readings (applied who force at) = is_manager_name who.name && readings.moment at
-is_label readings (updated who at) = is_manager_name who.name && readings.moment at
-is_label readings stripped = true
+is_label readings l = elim (actor_of l) [ Some who ↦ is_manager_name who.name && readings.moment who.moment | None ↦ true ]
 
 abbrev pub label_in : Readings → Json → Option Label
 label_in readings v = let label = said_label v in given_if (is_label readings label) label

@@ -1,16 +1,17 @@
 -- Bench files: the text of a bench in each format, what a format can tell, and which texts are files.
-use Rattle.std.specs.Prelude.{◌≡◌, ◌≤◌, ◌==◌, ℕ, List, flat_map, length, Bool, true, false, not, ◌||◌}
+use Rattle.std.specs.Prelude.{◌≡◌, ◌≤◌, ◌==◌, ℕ, List, flat_map, length, Bool, true, false, not, ◌||◌, Some, None}
 use Rattle.std.specs.List.{All, list_all}
 use Rattle.ssa_model.specs.definitions.Limits.{most_past, most_bench_bytes}
 use Rattle.ssa_model.specs.definitions.Json.{Text, Json}
 use Rattle.ssa_model.specs.definitions.Readings.{Readings}
 use Rattle.ssa_model.specs.definitions.Parts.{Subresource, main, same_part}
 use Rattle.ssa_model.specs.definitions.Operations.{State}
-use Rattle.ssa_model.specs.definitions.History.{Label, applied, updated, stripped, Step, Bench}
+use Rattle.ssa_model.specs.definitions.History.{Label, Step, Bench}
 use Rattle.ssa_model.specs.definitions.BenchText.{Format, states, records, parts, depths, line, bench_values}
 use Rattle.ssa_model.specs.definitions.BenchFile.{IsSpelled, IsValidBench}
 use Rattle.ssa_model.specs.definitions.RecordedBench.{recorded_values, HasReadHistory}
 use Rattle.ssa_model.specs.definitions.ToldParts.{line_tells_subresource}
+use Rattle.ssa_model.specs.definitions.Commands.{actor_of}
 
 -- the values of the lines
 abbrev pub file_values : Format → Bench → List Json
@@ -43,9 +44,7 @@ is_main s = same_part s main
 
 -- the command acts through no subresource
 abbrev pub is_main_label : Label → Bool
-is_main_label (applied who force at) = is_main who.part
-is_main_label (updated who at) = is_main who.part
-is_main_label stripped = true
+is_main_label l = elim (actor_of l) [ Some who ↦ is_main who.part | None ↦ true ]
 
 -- no manager acts through one
 abbrev pub is_main_state : State → Bool

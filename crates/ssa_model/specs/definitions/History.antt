@@ -5,15 +5,12 @@ use Rattle.ssa_model.specs.definitions.Json.{Text}
 use Rattle.ssa_model.specs.definitions.Limits.{most_name_bytes}
 use Rattle.ssa_model.specs.definitions.Schema.{Schema}
 use Rattle.ssa_model.specs.definitions.Objects.{Identity}
-use Rattle.ssa_model.specs.definitions.Parts.{Actor}
 use Rattle.ssa_model.specs.definitions.Operations.{State}
+use Rattle.ssa_model.specs.definitions.Commands.{Change}
 
-pub data Label : Type 0 where
-  -- who, force, moment
-  applied : Actor → Bool → Text → Label
-  -- who, moment
-  updated : Actor → Text → Label
-  stripped : Label
+-- a change without its object
+abbrev pub Label : Type 0
+Label = Change (Unit {0})
 
 -- a state after the first, and the command that made it
 pub record Step : Type 0 where

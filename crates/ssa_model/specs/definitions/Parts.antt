@@ -14,10 +14,11 @@ same_part main main = true
 same_part status status = true
 same_part _ _ = false
 
--- who acts, and through which subresource
+-- who acts, through which subresource, and when
 pub record Actor : Type 0 where
   pub name : Text
   pub part : Subresource
+  pub moment : Text
 
 abbrev pub status_path : Path
 status_path = field (codes "status") ∷ []

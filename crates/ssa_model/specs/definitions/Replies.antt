@@ -6,10 +6,11 @@ use Rattle.ssa_model.specs.definitions.PathMap.{PathSet, paths}
 use Rattle.ssa_model.specs.definitions.Keys.{part_members, key_json, with_key}
 use Rattle.ssa_model.specs.definitions.Operations.{Clash, Refusal, conflict}
 use Rattle.ssa_model.specs.definitions.Values.{text_json, list_json, number_json}
-use Rattle.ssa_model.specs.definitions.History.{Label, applied, updated, stripped}
+use Rattle.ssa_model.specs.definitions.History.{Label}
 use Rattle.ssa_model.specs.definitions.GivenEntries.{EntryFault, absent_path}
 use Rattle.ssa_model.specs.definitions.Answers.{Fault, body_fault, entry_fault, refused, Reply, changed, moved, shown, owned_by, logged, fault, Changed}
 use Rattle.ssa_model.specs.definitions.Faults.{Code, number_of, name_of, body_fault_code, refusal_code, entry_fault_code, fault_code}
+use Rattle.ssa_model.specs.definitions.Commands.{apply, update, strip}
 
 -- a path is the list of its elements' texts
 abbrev pub path_json : Path → Json
@@ -61,13 +62,13 @@ moved_json word past future =
     object (member (codes "done") (text_json word) (member (codes "future") (number_json future) (member (codes "past") (number_json past) no_members)))
 
 abbrev pub label_json : Label → Json
-label_json (applied who force at) =
-    object (member (codes "at") (text_json at) (member (codes "do") (text_json (codes "apply"))
+label_json (apply who force o) =
+    object (member (codes "at") (text_json who.moment) (member (codes "do") (text_json (codes "apply"))
     (member (codes "force") (scalar (truth force)) (member (codes "manager") (text_json who.name) (part_members who.part no_members)))))
-label_json (updated who at) =
-    object (member (codes "at") (text_json at) (member (codes "do") (text_json (codes "update"))
+label_json (update who o) =
+    object (member (codes "at") (text_json who.moment) (member (codes "do") (text_json (codes "update"))
     (member (codes "manager") (text_json who.name) (part_members who.part no_members))))
-label_json stripped = object (member (codes "do") (text_json (codes "strip")) no_members)
+label_json strip = object (member (codes "do") (text_json (codes "strip")) no_members)
 
 abbrev pub reply_json : Reply → Json
 reply_json (changed word c) = changed_json word c

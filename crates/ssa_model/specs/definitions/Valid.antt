@@ -1,5 +1,5 @@
 -- Valid tables, states and histories.
-use Rattle.std.specs.Prelude.{ℕ, ◌≡◌, ◌≤◌, [], ◌∷◌, Bool, true, false, not, ◌&&◌, List, map, filter, length, Some, codes}
+use Rattle.std.specs.Prelude.{ℕ, ◌≡◌, ◌≤◌, [], ◌∷◌, Bool, true, false, not, ◌&&◌, List, map, filter, length, Some, codes, None}
 use Rattle.ssa_model.specs.definitions.Limits.{most_places, most_managers}
 use Rattle.ssa_model.specs.definitions.Path.{Path, field}
 use Rattle.ssa_model.specs.definitions.PathMap.{PathSet, get, has, is_empty, size}
@@ -8,9 +8,10 @@ use Rattle.ssa_model.specs.definitions.Body.{Body, record_branch, points, is_own
 use Rattle.ssa_model.specs.definitions.Table.{Entry, Table, is_in_table}
 use Rattle.ssa_model.specs.definitions.Fitting.{IsBodyOf}
 use Rattle.ssa_model.specs.definitions.Operations.{State}
-use Rattle.ssa_model.specs.definitions.History.{Label, applied, updated, stripped, Step, Timeline, is_manager_name, present}
+use Rattle.ssa_model.specs.definitions.History.{Label, Step, Timeline, is_manager_name, present}
 use Rattle.ssa_model.specs.definitions.Keys.{ManagerKey}
 use Rattle.std.specs.List.{All}
+use Rattle.ssa_model.specs.definitions.Commands.{actor_of}
 
 abbrev pub has_distinct_keys : Table → Bool
 has_distinct_keys [] = true
@@ -84,9 +85,7 @@ KeepsOrders s [] = Unit {0}
 KeepsOrders s (t ∷ ts) = KeepsOrder s.table t.state.table × KeepsOrders t.state ts
 
 abbrev pub is_named : Label → Bool
-is_named (applied who force at) = is_manager_name who.name
-is_named (updated who at) = is_manager_name who.name
-is_named stripped = true
+is_named l = elim (actor_of l) [ Some who ↦ is_manager_name who.name | None ↦ true ]
 
 abbrev pub MakesNamed : Step → Type 0
 MakesNamed s = is_named s.label ≡ true

@@ -8,11 +8,12 @@ use Rattle.ssa_model.specs.definitions.Parts.{main}
 use Rattle.ssa_model.specs.definitions.Table.{Table}
 use Rattle.ssa_model.specs.definitions.Objects.{body_value}
 use Rattle.ssa_model.specs.definitions.Operations.{apply_target}
-use Rattle.ssa_model.specs.definitions.History.{Label, applied, updated, stripped, Step, Bench, present, with_timeline}
-use Rattle.ssa_model.specs.definitions.Answers.{Command, apply, undo, run}
+use Rattle.ssa_model.specs.definitions.History.{Label, Step, Bench, present, with_timeline}
+use Rattle.ssa_model.specs.definitions.Answers.{run, BenchCommand}
 use Rattle.ssa_model.specs.definitions.BenchText.{line, head_of, head_json, state_json, first_json, step_json, bench_values, bench_text}
 use Rattle.ssa_model.specs.definitions.BenchOfStates.{values_bench, bench_in}
 use Rattle.ssa_model.specs.definitions.Keys.{applies, ManagerKey}
+use Rattle.ssa_model.specs.definitions.Commands.{apply, update, strip, undo, change}
 use Rattle.ssa_model.specs.examples.Sample.{main_by, sample_kind, sample_schema}
 use Rattle.ssa_model.specs.examples.Rows.{new_bench, with_replicas, m1, m2}
 use Rattle.ssa_model.specs.examples.EntryRows.{with_uid}
@@ -27,11 +28,11 @@ abbrev pub applied_line : Text
 applied_line =
     codes "{\"command\":{\"at\":\"2024-05-01T10:00:01Z\",\"do\":\"apply\",\"force\":false,\"manager\":\"m1\"},\"object\":{\"apiVersion\":\"example.com/v1\",\"kind\":\"App\",\"metadata\":{\"managedFields\":[{\"apiVersion\":\"example.com/v1\",\"fieldsType\":\"FieldsV1\",\"fieldsV1\":{\"f:spec\":{\"f:replicas\":{}}},\"manager\":\"m1\",\"operation\":\"Apply\",\"time\":\"2024-05-01T10:00:01Z\"}],\"name\":\"web\"},\"spec\":{\"replicas\":3}}}"
 
-abbrev pub after : List Command → Bench
+abbrev pub after : List BenchCommand → Bench
 after cs = (run new_bench cs).1
 
-abbrev pub one_apply : Command
-one_apply = apply (main_by m1) false (codes "2024-05-01T10:00:01Z") (with_replicas 3)
+abbrev pub one_apply : BenchCommand
+one_apply = change (apply (main_by m1 (codes "2024-05-01T10:00:01Z")) false (with_replicas 3))
 
 -- a new bench, one after a command, and that bench after an undo
 abbrev pub BenchesAreWritten : Type 0
@@ -56,10 +57,10 @@ undone = after (one_apply ∷ undo ∷ [])
 
 -- after two managers' applies, and then a step with this label and table
 abbrev pub third : Label → (Table → Table) → Bench
-third label change =
-    let bench = after (one_apply ∷ apply (main_by m2) false (codes "2024-05-01T10:00:01Z") (with_replicas 3) ∷ []) in
+third label with =
+    let bench = after (one_apply ∷ change (apply (main_by m2 (codes "2024-05-01T10:00:01Z")) false (with_replicas 3)) ∷ []) in
     let now = present bench.timeline in
-    let last : Step = record { label = label; state = record { body = now.body; table = change now.table } } in
+    let last : Step = record { label = label; state = record { body = now.body; table = with now.table } } in
     with_timeline bench (record { first = bench.timeline.first; later = bench.timeline.later ++ last ∷ []; place = 1 })
 
 -- a bench is taken from its values, and the values are those that are written of what is taken
@@ -67,7 +68,7 @@ abbrev pub is_taken : Bench → Bool
 is_taken bench = elim (taken_values (bench_values bench)) [ Some taken ↦ pointwise same_json (bench_values taken) (bench_values bench) | None ↦ false ]
 
 abbrev pub BenchesAreTaken : Type 0
-BenchesAreTaken = (is_taken undone ≡ true) × (is_taken (third stripped (λ t. t)) ≡ true)
+BenchesAreTaken = (is_taken undone ≡ true) × (is_taken (third strip (λ t. t)) ≡ true)
 
 -- the values of the undone bench's file, with another head, first state and later states
 abbrev pub with_parts : Json → Json → List Json → List Json
@@ -88,8 +89,8 @@ WrongFilesAreRefused =
     × (taken_values (with_parts (head_of 0 2) (first_json undone) []) ≡ None)
     × (taken_values (with_parts (head_of 0 1) (first_json undone) undone_later) ≡ None)
     × (taken_values (with_parts (head_of 0 2) (state_json (object no_members) with_uid) undone_later) ≡ None)
-    × (taken_values (bench_values (third (updated (main_by m1) (codes "t1")) (λ t. t))) ≡ None)
-    × (taken_values (bench_values (third stripped swapped)) ≡ None)
+    × (taken_values (bench_values (third (update (main_by m1 (codes "t1")) tt) (λ t. t))) ≡ None)
+    × (taken_values (bench_values (third strip swapped)) ≡ None)
 
 -- ---- a bench file
 
@@ -110,7 +111,7 @@ three_replicas = flat sample_kind (body_value (with_replicas 3))
 abbrev pub applied_step : Step
 applied_step =
     let at = codes "2024-05-01T10:00:01Z" in
-    record { label = applied (main_by m1) false at; state = apply_target new_bench.timeline.first m1_applies three_replicas at }
+    record { label = apply (main_by m1 at) false tt; state = apply_target new_bench.timeline.first m1_applies three_replicas at }
 
 -- the step is undone
 abbrev pub filed : Bench

@@ -8,13 +8,14 @@ use Rattle.ssa_model.specs.definitions.Path.{field}
 use Rattle.ssa_model.specs.definitions.PathMap.{listed, union}
 use Rattle.ssa_model.specs.definitions.Table.{Entry}
 use Rattle.ssa_model.specs.definitions.Operations.{State}
-use Rattle.ssa_model.specs.definitions.History.{Label, applied}
+use Rattle.ssa_model.specs.definitions.History.{Label}
 use Rattle.ssa_model.specs.definitions.Values.{number_json}
 use Rattle.ssa_model.specs.definitions.BenchText.{Format, states, records, parts, depths, format_number, line, head_of, whole_object, first_json, step_json}
 use Rattle.ssa_model.specs.definitions.RecordedBench.{record_head, record_line}
 use Rattle.ssa_model.specs.definitions.Formats.{file_values, file_text, IsFile}
 use Rattle.ssa_model.specs.definitions.BenchFaults.{move_fault_number, file_fault}
 use Rattle.ssa_model.specs.definitions.BenchOfFile.{FileHead, of_states, of_records, file_head, file_bench_in}
+use Rattle.ssa_model.specs.definitions.Commands.{apply}
 use Rattle.ssa_model.specs.examples.Sample.{string_json}
 use Rattle.ssa_model.specs.examples.Rows.{m1}
 use Rattle.ssa_model.specs.examples.FileRows.{readings_of, applied_step, filed}
@@ -126,7 +127,7 @@ FaultsAreTold =
 
 -- the sample's apply, through the subresource, and its state, in which the manager acts through it
 abbrev pub status_label : Label
-status_label = applied (record { name = m1; part = status }) false (codes "2024-05-01T10:00:01Z")
+status_label = apply (record { name = m1; part = status; moment = codes "2024-05-01T10:00:01Z" }) false tt
 
 abbrev pub through_status : Entry → Entry
 through_status e = record { manager = record { name = e.manager.name; operation = e.manager.operation; part = status }; owned = e.owned; moment = e.moment }

@@ -1,10 +1,11 @@
 -- Worked examples: the answers to lines of a session, as the texts that are written.
 use Rattle.std.specs.Prelude.{◌≡◌, ℕ, zero, suc, List, [], ◌∷◌, Result, Ok, Err, codes, false}
 use Rattle.ssa_model.specs.definitions.Json.{Text, Json, list, object, scalar, truth, no_items, item, Members, no_members, member, same_text}
-use Rattle.ssa_model.specs.definitions.History.{Bench, applied, past_len, present, with_timeline}
-use Rattle.ssa_model.specs.definitions.Answers.{strip, answer, run}
+use Rattle.ssa_model.specs.definitions.History.{Bench, past_len, present, with_timeline}
+use Rattle.ssa_model.specs.definitions.Answers.{answer, run}
 use Rattle.ssa_model.specs.definitions.Readings.{ReadFault, Readings, not_json, null_value, number_outside}
 use Rattle.ssa_model.specs.definitions.Session.{line_answer}
+use Rattle.ssa_model.specs.definitions.Commands.{apply, strip, change}
 use Rattle.ssa_model.specs.examples.Sample.{main_by, string_json, number_json}
 use Rattle.ssa_model.specs.examples.Rows.{bare_object, m1, new_bench, object_with, sample_object, shared, with_ports, with_replicas}
 use Rattle.ssa_model.specs.examples.MoreRows.{texts_json, with_hosts}
@@ -79,7 +80,7 @@ abbrev pub with_past : ℕ → Bench
 with_past n =
     with_timeline new_bench (record {
       first = present new_bench.timeline;
-      later = times n (record { label = applied (main_by m1) false (codes "t1"); state = present new_bench.timeline });
+      later = times n (record { label = apply (main_by m1 (codes "t1")) false tt; state = present new_bench.timeline });
       place = n;
     })
 
@@ -88,7 +89,7 @@ abbrev pub RefusedCommandsAreTold : Type 0
 RefusedCommandsAreTold =
     (replied (applies_at (codes "t1") (codes "") bare_object) ≡ codes "{\"fault\":62,\"name\":\"ManagerName\"}")
     × (written_for (with_past 1000) (Ok (plain (codes "strip"))) ≡ codes "{\"added\":[],\"done\":\"strip\",\"managers\":0,\"modified\":[],\"removed\":[]}")
-    × (past_len (answer (with_past 1000) strip).1.timeline ≡ 1000) × (past_len (answer (with_past 999) strip).1.timeline ≡ 1000)
+    × (past_len (answer (with_past 1000) (change strip)).1.timeline ≡ 1000) × (past_len (answer (with_past 999) (change strip)).1.timeline ≡ 1000)
     × (replied (plain (codes "undo")) ≡ codes "{\"fault\":64,\"name\":\"NothingToUndo\"}")
     × (replied (plain (codes "redo")) ≡ codes "{\"fault\":65,\"name\":\"NothingToRedo\"}")
 

@@ -6,8 +6,9 @@ use Rattle.ssa_model.specs.definitions.PathMap.{get, listed}
 use Rattle.ssa_model.specs.definitions.History.{present}
 use Rattle.ssa_model.specs.definitions.FieldsV1.{fields_json}
 use Rattle.ssa_model.specs.definitions.Answers as answers
-use Rattle.ssa_model.specs.definitions.Answers.{Command, apply, update, strip, undo, redo}
+use Rattle.ssa_model.specs.definitions.Answers.{BenchCommand}
 use Rattle.ssa_model.specs.definitions.Schema.{read_schema}
+use Rattle.ssa_model.specs.definitions.Commands.{apply, update, strip, undo, redo, change}
 use Rattle.ssa_model.specs.examples.Sample.{main_by, sample_schema, string_json, number_json, replicas_path}
 use Rattle.ssa_model.specs.examples.Rows.{object_with, bare_object, with_replicas, with_image, new_bench, replies, table_after, order_of, done, at, clash, m1, m2, replicas_texts, image_texts, written}
 
@@ -31,17 +32,17 @@ abbrev pub env_texts : Text → List Text
 env_texts n = codes "f:spec" ∷ codes "f:env" ∷ (codes "f:" ++ n) ∷ []
 
 -- the order of the hosts after the commands
-abbrev pub hosts_after : List Command → List Text
+abbrev pub hosts_after : List BenchCommand → List Text
 hosts_after cs = order_of (get (present (answers.run new_bench cs).1.timeline).body (field (codes "spec") ∷ field (codes "hosts") ∷ []))
 
 -- an atomic list is one field, whole
 abbrev pub AtomicListClashes : Type 0
 AtomicListClashes =
-    replies (apply (main_by m1) false (codes "t1") (with_args (codes "x" ∷ codes "y" ∷ [])) ∷ apply (main_by m2) false (codes "t2") (with_args (codes "x" ∷ codes "z" ∷ [])) ∷ [])
+    replies (change (apply (main_by m1 (codes "t1")) false (with_args (codes "x" ∷ codes "y" ∷ []))) ∷ change (apply (main_by m2 (codes "t2")) false (with_args (codes "x" ∷ codes "z" ∷ []))) ∷ [])
     ≡ done ((codes "f:spec" ∷ codes "f:args" ∷ []) ∷ []) 1 [] [] ∷ clash ((m1, (codes "f:spec" ∷ codes "f:args" ∷ []) ∷ []) ∷ []) ∷ []
 
-abbrev pub twice : List Command
-twice = apply (main_by m1) false (codes "t1") (with_replicas 3) ∷ apply (main_by m1) false (codes "t9") (with_replicas 3) ∷ []
+abbrev pub twice : List BenchCommand
+twice = change (apply (main_by m1 (codes "t1")) false (with_replicas 3)) ∷ change (apply (main_by m1 (codes "t9")) false (with_replicas 3)) ∷ []
 
 -- a command that changes nothing is kept, and renews no moment
 abbrev pub RepeatRenewsNothing : Type 0
@@ -49,25 +50,25 @@ RepeatRenewsNothing =
     (replies (twice ++ undo ∷ []) ≡ done (replicas_texts ∷ []) 1 [] [] ∷ done [] 1 [] [] ∷ at 1 1 ∷ [])
     × (table_after twice ≡ (m1, replicas_texts ∷ [], codes "t1") ∷ [])
 
-abbrev pub three_managers : List Command
+abbrev pub three_managers : List BenchCommand
 three_managers =
-    apply (main_by m1) false (codes "t1") (with_image (codes "a:1")) ∷ apply (main_by m2) false (codes "t2") (with_replicas 3)
-    ∷ apply (main_by (codes "m3")) false (codes "t3") (with_hosts (codes "h" ∷ [])) ∷ []
+    change (apply (main_by m1 (codes "t1")) false (with_image (codes "a:1"))) ∷ change (apply (main_by m2 (codes "t2")) false (with_replicas 3))
+    ∷ change (apply (main_by (codes "m3") (codes "t3")) false (with_hosts (codes "h" ∷ []))) ∷ []
 
 -- strip empties the table
 abbrev pub StripEmptiesTable : Type 0
-StripEmptiesTable = table_after (three_managers ++ strip ∷ []) ≡ []
+StripEmptiesTable = table_after (three_managers ++ change strip ∷ []) ≡ []
 
 -- undo brings each manager back to its place, with its moment
 abbrev pub UndoBringsManagersBack : Type 0
 UndoBringsManagersBack =
-    table_after (three_managers ++ strip ∷ undo ∷ [])
+    table_after (three_managers ++ change strip ∷ undo ∷ [])
     ≡ (m1, image_texts ∷ [], codes "t1") ∷ (m2, replicas_texts ∷ [], codes "t2") ∷ (codes "m3", host_texts (codes "h") ∷ [], codes "t3") ∷ []
 
-abbrev pub host_updates : List Command
+abbrev pub host_updates : List BenchCommand
 host_updates =
-    update (main_by (codes "u")) (codes "t1") (with_hosts (codes "b" ∷ codes "a" ∷ [])) ∷ update (main_by (codes "u")) (codes "t2") (with_hosts [])
-    ∷ update (main_by (codes "u")) (codes "t3") (with_hosts (codes "a" ∷ codes "c" ∷ codes "b" ∷ [])) ∷ []
+    change (update (main_by (codes "u") (codes "t1")) (with_hosts (codes "b" ∷ codes "a" ∷ []))) ∷ change (update (main_by (codes "u") (codes "t2")) (with_hosts []))
+    ∷ change (update (main_by (codes "u") (codes "t3")) (with_hosts (codes "a" ∷ codes "c" ∷ codes "b" ∷ []))) ∷ []
 
 -- a set that is emptied and filled again, back and forth
 abbrev pub SetsBackAndForth : Type 0
@@ -82,10 +83,10 @@ SetsBackAndForth =
 abbrev pub host_list : List Text → List (List Text)
 host_list hosts = map host_texts hosts
 
-abbrev pub led_hosts : List Command
+abbrev pub led_hosts : List BenchCommand
 led_hosts =
-    update (main_by (codes "u")) (codes "t1") (with_hosts (codes "a" ∷ codes "b" ∷ codes "c" ∷ codes "d" ∷ []))
-    ∷ apply (main_by m1) false (codes "t2") (with_hosts (codes "d" ∷ codes "x" ∷ codes "a" ∷ [])) ∷ []
+    change (update (main_by (codes "u") (codes "t1")) (with_hosts (codes "a" ∷ codes "b" ∷ codes "c" ∷ codes "d" ∷ [])))
+    ∷ change (apply (main_by m1 (codes "t2")) false (with_hosts (codes "d" ∷ codes "x" ∷ codes "a" ∷ []))) ∷ []
 
 -- the configuration's order leads
 abbrev pub ConfigurationLeads : Type 0
@@ -97,7 +98,7 @@ ConfigurationLeads =
 -- an order alone changes no manager and no moment
 abbrev pub OrderOwnsNothing : Type 0
 OrderOwnsNothing =
-    let cs = apply (main_by m1) false (codes "t1") (with_hosts (codes "a" ∷ codes "b" ∷ [])) ∷ apply (main_by m1) false (codes "t2") (with_hosts (codes "b" ∷ codes "a" ∷ [])) ∷ [] in
+    let cs = change (apply (main_by m1 (codes "t1")) false (with_hosts (codes "a" ∷ codes "b" ∷ []))) ∷ change (apply (main_by m1 (codes "t2")) false (with_hosts (codes "b" ∷ codes "a" ∷ []))) ∷ [] in
     (replies cs ≡ done (host_list (codes "a" ∷ codes "b" ∷ [])) 1 [] [] ∷ done [] 1 [] [] ∷ [])
     × (hosts_after cs ≡ codes "v:\"b\"" ∷ codes "v:\"a\"" ∷ [])
     × (table_after cs ≡ (m1, host_list (codes "a" ∷ codes "b" ∷ []), codes "t1") ∷ [])
@@ -106,7 +107,7 @@ OrderOwnsNothing =
 -- the place of an item that both have stays, and the item of the configuration alone follows
 abbrev pub LiveHostsFirst : Type 0
 LiveHostsFirst =
-    let cs = apply (main_by m1) false (codes "t1") (with_hosts (codes "a" ∷ codes "b" ∷ [])) ∷ apply (main_by m2) false (codes "t2") (with_hosts (codes "c" ∷ codes "a" ∷ []))
+    let cs = change (apply (main_by m1 (codes "t1")) false (with_hosts (codes "a" ∷ codes "b" ∷ []))) ∷ change (apply (main_by m2 (codes "t2")) false (with_hosts (codes "c" ∷ codes "a" ∷ [])))
     ∷ [] in
     (replies cs ≡ done (host_texts (codes "a") ∷ host_texts (codes "b") ∷ []) 1 [] [] ∷ done (host_texts (codes "c") ∷ []) 2 [] [] ∷ [])
     × (hosts_after cs ≡ codes "v:\"a\"" ∷ codes "v:\"b\"" ∷ codes "v:\"c\"" ∷ [])
@@ -114,23 +115,23 @@ LiveHostsFirst =
 -- an empty map is a point until it has an entry
 abbrev pub EmptyMapIsOwned : Type 0
 EmptyMapIsOwned =
-    replies (apply (main_by m1) false (codes "t1") (with_env no_members)
-    ∷ apply (main_by m2) false (codes "t2") (with_env (member (codes "A") (string_json (codes "1")) no_members)) ∷ [])
+    replies (change (apply (main_by m1 (codes "t1")) false (with_env no_members))
+    ∷ change (apply (main_by m2 (codes "t2")) false (with_env (member (codes "A") (string_json (codes "1")) no_members))) ∷ [])
     ≡ done ((codes "f:spec" ∷ codes "f:env" ∷ []) ∷ []) 1 [] [] ∷ done (env_texts (codes "A") ∷ []) 2 [] [] ∷ []
 
 -- an entry that is given up goes, one that another manager owns stays
 abbrev pub GivenUpEntryGoes : Type 0
 GivenUpEntryGoes =
-    replies (apply (main_by m1) false (codes "t1") (with_env (member (codes "A") (string_json (codes "1")) (member (codes "B") (string_json (codes "2")) no_members)))
-    ∷ apply (main_by m2) false (codes "t2") (with_env (member (codes "B") (string_json (codes "2")) no_members)) ∷ apply (main_by m1) false (codes "t3") bare_object ∷ [])
+    replies (change (apply (main_by m1 (codes "t1")) false (with_env (member (codes "A") (string_json (codes "1")) (member (codes "B") (string_json (codes "2")) no_members))))
+    ∷ change (apply (main_by m2 (codes "t2")) false (with_env (member (codes "B") (string_json (codes "2")) no_members))) ∷ change (apply (main_by m1 (codes "t3")) false bare_object) ∷ [])
     ≡ done (env_texts (codes "A") ∷ env_texts (codes "B") ∷ []) 1 [] [] ∷ done [] 2 [] [] ∷ done [] 1 [] (env_texts (codes "A") ∷ []) ∷ []
 
 -- one name has an entry for each operation, with a moment of its own
 abbrev pub TwoOperationsOfOneName : Type 0
 TwoOperationsOfOneName =
-    let cs = apply (main_by (codes "m")) false (codes "t1") (with_image (codes "a:1"))
-    ∷ update (main_by (codes "m")) (codes "t2") (object_with (member (codes "image") (string_json (codes "a:1")) (member (codes "replicas") (number_json 2) no_members)))
-    ∷ apply (main_by (codes "m")) false (codes "t3") (with_image (codes "a:2")) ∷ [] in
+    let cs = change (apply (main_by (codes "m") (codes "t1")) false (with_image (codes "a:1")))
+    ∷ change (update (main_by (codes "m") (codes "t2")) (object_with (member (codes "image") (string_json (codes "a:1")) (member (codes "replicas") (number_json 2) no_members))))
+    ∷ change (apply (main_by (codes "m") (codes "t3")) false (with_image (codes "a:2"))) ∷ [] in
     (replies cs ≡ done (image_texts ∷ []) 1 [] [] ∷ done (replicas_texts ∷ []) 2 [] [] ∷ done [] 2 (image_texts ∷ []) [] ∷ [])
     × (table_after cs ≡ (codes "m", image_texts ∷ [], codes "t3") ∷ (codes "m", replicas_texts ∷ [], codes "t2") ∷ [])
 

@@ -6,8 +6,9 @@ use Rattle.ssa_model.specs.definitions.Parts.{status, Actor}
 use Rattle.ssa_model.specs.definitions.Keys.{applies, updates, key_of}
 use Rattle.ssa_model.specs.definitions.Objects.{identity_of}
 use Rattle.ssa_model.specs.definitions.History.{Bench, present}
-use Rattle.ssa_model.specs.definitions.Answers.{Command, apply, update, show, run}
+use Rattle.ssa_model.specs.definitions.Answers.{run, BenchCommand}
 use Rattle.ssa_model.specs.definitions.Replies.{reply_text}
+use Rattle.ssa_model.specs.definitions.Commands.{apply, update, show, change}
 use Rattle.ssa_model.specs.examples.Sample.{main_by, status_kind, status_schema, number_json}
 use Rattle.ssa_model.specs.examples.Rows.{sample_object, with_replicas, m1, new_bench}
 
@@ -19,8 +20,8 @@ status_bench = record {
   timeline = record { first = record { body = flat status_kind (object no_members); table = [] }; later = []; place = 0 };
 }
 
-abbrev pub status_by : Text → Actor
-status_by n = record { name = n; part = status }
+abbrev pub status_by : Text → Text → Actor
+status_by n at = record { name = n; part = status; moment = at }
 
 abbrev pub ready : ℕ → Members
 ready n = member (codes "status") (object (member (codes "ready") (number_json n) no_members)) no_members
@@ -28,14 +29,14 @@ ready n = member (codes "status") (object (member (codes "ready") (number_json n
 abbrev pub both : Json
 both = sample_object no_members (member (codes "spec") (object (member (codes "replicas") (number_json 3) no_members)) (ready 1))
 
-abbrev pub part_commands : List Command
+abbrev pub part_commands : List BenchCommand
 part_commands =
-    apply (status_by m1) false (codes "t1") both ∷ apply (main_by m1) false (codes "t2") (with_replicas 3)
-    ∷ update (main_by (codes "u")) (codes "t3") (with_replicas 4)
-    ∷ apply (status_by (codes "c")) false (codes "t4") (sample_object no_members (ready 2)) ∷ show false ∷ []
+    change (apply (status_by m1 (codes "t1")) false both) ∷ change (apply (main_by m1 (codes "t2")) false (with_replicas 3))
+    ∷ change (update (main_by (codes "u") (codes "t3")) (with_replicas 4))
+    ∷ change (apply (status_by (codes "c") (codes "t4")) false (sample_object no_members (ready 2))) ∷ show false ∷ []
 
 -- the texts of the replies
-abbrev pub reply_texts : Bench → List Command → List Text
+abbrev pub reply_texts : Bench → List BenchCommand → List Text
 reply_texts bench cs = map reply_text (run bench cs).0
 
 abbrev pub PartsAreApart : Type 0
@@ -51,10 +52,10 @@ PartsAreApart =
 -- the managers afterwards, as names, operations and parts
 abbrev pub PartsAreKeys : Type 0
 PartsAreKeys =
-    map (λ e. e.manager) (present (run status_bench part_commands).1.timeline).table ≡ key_of applies (status_by m1) ∷ key_of updates (main_by (codes "u")) ∷ []
+    map (λ e. e.manager) (present (run status_bench part_commands).1.timeline).table ≡ key_of applies (status_by m1 (codes "t1")) ∷ key_of updates (main_by (codes "u") (codes "t3")) ∷ []
 
 -- where the schema has no `status`, a command through it is refused
 abbrev pub PlainHasNoStatus : Type 0
 PlainHasNoStatus =
-    reply_texts new_bench (apply (status_by m1) false (codes "t1") (sample_object no_members no_members) ∷ [])
+    reply_texts new_bench (change (apply (status_by m1 (codes "t1")) false (sample_object no_members no_members)) ∷ [])
     ≡ codes "{\"fault\":67,\"name\":\"NoSubresource\"}" ∷ []

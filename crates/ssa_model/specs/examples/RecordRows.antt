@@ -9,18 +9,19 @@ use Rattle.ssa_model.specs.definitions.Keys.{applies}
 use Rattle.ssa_model.specs.definitions.Objects.{body_value}
 use Rattle.ssa_model.specs.definitions.Operations.{State}
 use Rattle.ssa_model.specs.definitions.History.{present}
-use Rattle.ssa_model.specs.definitions.Answers.{Command, apply, update, strip, run}
+use Rattle.ssa_model.specs.definitions.Answers.{run, BenchCommand}
 use Rattle.ssa_model.specs.definitions.Valid.{IsValidState, KeepsOrder}
 use Rattle.ssa_model.specs.definitions.Record.{Record, record_of}
 use Rattle.ssa_model.specs.definitions.Facts.{record_size, facts}
 use Rattle.ssa_model.specs.definitions.RecordText.{record_json}
+use Rattle.ssa_model.specs.definitions.Commands.{apply, update, strip, change}
 use Rattle.ssa_model.specs.examples.Sample.{main_by, sample_kind, string_json, port}
 use Rattle.ssa_model.specs.examples.Rows.{new_bench, shared, with_replicas, with_ports, bare_object, m1, m2, abc, port_texts}
 use Rattle.ssa_model.specs.examples.MoreRows.{three_managers, host_updates, led_hosts, with_hosts}
 use Rattle.ssa_model.specs.examples.FileRows.{applied_step}
 
 -- the state after the commands
-abbrev pub state_after : List Command → State
+abbrev pub state_after : List BenchCommand → State
 state_after cs = present (run new_bench cs).1.timeline
 
 -- ---- sizes
@@ -30,56 +31,56 @@ abbrev pub Sizes : State → State → ℕ → ℕ → Type 0
 Sizes v w back forth = (record_size (record_of w v) ≡ back) × (record_size (record_of v w) ≡ forth)
 
 -- those of the last command
-abbrev pub LastCommand : List Command → Command → ℕ → ℕ → Type 0
+abbrev pub LastCommand : List BenchCommand → BenchCommand → ℕ → ℕ → Type 0
 LastCommand cs c back forth = Sizes (state_after cs) (state_after (cs ++ c ∷ [])) back forth
 
-abbrev pub first_apply : Command
-first_apply = apply (main_by m1) false (codes "t1") (with_replicas 3)
+abbrev pub first_apply : BenchCommand
+first_apply = change (apply (main_by m1 (codes "t1")) false (with_replicas 3))
 
 abbrev pub FirstApplyRecord : Type 0
 FirstApplyRecord = LastCommand [] first_apply 2 4
 
 -- a manager that is gone comes back to its place, and a moment comes back
 abbrev pub ForcedRecord : Type 0
-ForcedRecord = LastCommand shared (apply (main_by m1) true (codes "t4") (with_replicas 5)) 4 3
+ForcedRecord = LastCommand shared (change (apply (main_by m1 (codes "t4")) true (with_replicas 5))) 4 3
 
 abbrev pub GivenUpRecord : Type 0
-GivenUpRecord = LastCommand (shared ++ apply (main_by m1) false (codes "t3") bare_object ∷ []) (apply (main_by m2) false (codes "t4") bare_object) 4 2
+GivenUpRecord = LastCommand (shared ++ change (apply (main_by m1 (codes "t3")) false bare_object) ∷ []) (change (apply (main_by m2 (codes "t4")) false bare_object)) 4 2
 
-abbrev pub ports_applied : List Command
-ports_applied = apply (main_by m1) false (codes "t1") (with_ports abc) ∷ []
+abbrev pub ports_applied : List BenchCommand
+ports_applied = change (apply (main_by m1 (codes "t1")) false (with_ports abc)) ∷ []
 
-abbrev pub without_b : Command
-without_b = update (main_by (codes "u")) (codes "t2") (with_ports (item (port (codes "a") 1) (item (port (codes "c") 3) no_items)))
+abbrev pub without_b : BenchCommand
+without_b = change (update (main_by (codes "u") (codes "t2")) (with_ports (item (port (codes "a") 1) (item (port (codes "c") 3) no_items))))
 
 -- an item comes back to its place
 abbrev pub RemovedItemRecord : Type 0
 RemovedItemRecord = LastCommand ports_applied without_b 6 4
 
-abbrev pub reorder : Command
-reorder = update (main_by (codes "u")) (codes "t2") (with_ports (item (port (codes "c") 3) (item (port (codes "b") 2) (item (port (codes "a") 1) no_items))))
+abbrev pub reorder : BenchCommand
+reorder = change (update (main_by (codes "u") (codes "t2")) (with_ports (item (port (codes "c") 3) (item (port (codes "b") 2) (item (port (codes "a") 1) no_items)))))
 
 abbrev pub ReorderRecord : Type 0
 ReorderRecord = LastCommand ports_applied reorder 3 3
 
 abbrev pub RepeatRecord : Type 0
-RepeatRecord = LastCommand (first_apply ∷ []) (apply (main_by m1) false (codes "t9") (with_replicas 3)) 0 0
+RepeatRecord = LastCommand (first_apply ∷ []) (change (apply (main_by m1 (codes "t9")) false (with_replicas 3))) 0 0
 
 abbrev pub StripRecord : Type 0
-StripRecord = LastCommand three_managers strip 6 3
+StripRecord = LastCommand three_managers (change strip) 6 3
 
 -- the list stays, and its items go
 abbrev pub SetEmptiedRecord : Type 0
-SetEmptiedRecord = LastCommand (take 1 host_updates) (update (main_by (codes "u")) (codes "t2") (with_hosts [])) 5 3
+SetEmptiedRecord = LastCommand (take 1 host_updates) (change (update (main_by (codes "u") (codes "t2")) (with_hosts []))) 5 3
 
 -- and other items come
 abbrev pub SetFilledRecord : Type 0
-SetFilledRecord = LastCommand (take 2 host_updates) (update (main_by (codes "u")) (codes "t3") (with_hosts (codes "a" ∷ codes "c" ∷ codes "b" ∷ []))) 4 7
+SetFilledRecord = LastCommand (take 2 host_updates) (change (update (main_by (codes "u") (codes "t3")) (with_hosts (codes "a" ∷ codes "c" ∷ codes "b" ∷ [])))) 4 7
 
 abbrev pub LiveItemsRecord : Type 0
 LiveItemsRecord =
-    LastCommand (update (main_by (codes "u")) (codes "t1") (with_ports (item (port (codes "a") 1) (item (port (codes "b") 2) no_items))) ∷ [])
-    (apply (main_by m1) false (codes "t2") (with_ports (item (port (codes "c") 3) (item (port (codes "a") 1) no_items)))) 2 10
+    LastCommand (change (update (main_by (codes "u") (codes "t1")) (with_ports (item (port (codes "a") 1) (item (port (codes "b") 2) no_items)))) ∷ [])
+    (change (apply (main_by m1 (codes "t2")) false (with_ports (item (port (codes "c") 3) (item (port (codes "a") 1) no_items))))) 2 10
 
 -- ---- items that come and go in a list whose order changes
 
@@ -104,7 +105,7 @@ LedRecord = Sizes four_hosts hosts_led 6 10
 
 -- they are the states before and after such a command
 abbrev pub LedByCommand : Type 0
-LedByCommand = LastCommand (take 1 led_hosts) (apply (main_by m1) false (codes "t2") (with_hosts (codes "d" ∷ codes "x" ∷ codes "a" ∷ []))) 6 10
+LedByCommand = LastCommand (take 1 led_hosts) (change (apply (main_by m1 (codes "t2")) false (with_hosts (codes "d" ∷ codes "x" ∷ codes "a" ∷ [])))) 6 10
 
 -- ---- what is put
 
@@ -120,7 +121,7 @@ RemovedItemPlace =
 -- ---- in how many facts the states differ
 
 abbrev pub ForcedFacts : Type 0
-ForcedFacts = facts (state_after shared) (state_after (shared ++ apply (main_by m1) true (codes "t4") (with_replicas 5) ∷ [])) ≡ 4
+ForcedFacts = facts (state_after shared) (state_after (shared ++ change (apply (main_by m1 (codes "t4")) true (with_replicas 5)) ∷ [])) ≡ 4
 
 -- the items of a list in another order count in both states
 abbrev pub ReorderFacts : Type 0
@@ -134,14 +135,14 @@ RemovedItemFacts = facts (state_after ports_applied) (state_after (ports_applied
 abbrev pub record_text : State → State → Text
 record_text v w = compact (record_json (string_json (codes "example.com/v1")) sample_kind (record_of v w))
 
-abbrev pub first_applied : List Command
-first_applied = apply (main_by m1) false (codes "2024-05-01T10:00:01Z") (with_replicas 3) ∷ []
+abbrev pub first_applied : List BenchCommand
+first_applied = change (apply (main_by m1 (codes "2024-05-01T10:00:01Z")) false (with_replicas 3)) ∷ []
 
-abbrev pub both_applied : List Command
-both_applied = first_applied ++ apply (main_by m2) false (codes "2024-05-01T10:00:02Z") (with_replicas 3) ∷ []
+abbrev pub both_applied : List BenchCommand
+both_applied = first_applied ++ change (apply (main_by m2 (codes "2024-05-01T10:00:02Z")) false (with_replicas 3)) ∷ []
 
-abbrev pub forced : Command
-forced = apply (main_by m1) true (codes "2024-05-01T10:00:04Z") (with_replicas 5)
+abbrev pub forced : BenchCommand
+forced = change (apply (main_by m1 (codes "2024-05-01T10:00:04Z")) true (with_replicas 5))
 
 abbrev pub FirstApplyText : Type 0
 FirstApplyText =

@@ -6,7 +6,7 @@ use Rattle.ssa_model.specs.definitions.Json.{Text, Json, object, no_members, mem
 use Rattle.ssa_model.specs.definitions.Readings.{Readings}
 use Rattle.ssa_model.specs.definitions.Replies.{label_json}
 use Rattle.ssa_model.specs.definitions.History.{Bench, present}
-use Rattle.ssa_model.specs.definitions.Answers.{undo}
+use Rattle.ssa_model.specs.definitions.Commands.{undo}
 use Rattle.ssa_model.specs.definitions.BenchText.{Format, records, parts, depths, line, whole_object}
 use Rattle.ssa_model.specs.definitions.BenchFile.{IsLabel, IsValidBench}
 use Rattle.ssa_model.specs.definitions.MemberNames.{has_distinct_names, has_rising_names}

@@ -10,11 +10,12 @@ use Rattle.ssa_model.specs.definitions.Operations.{Refusal, conflict}
 use Rattle.ssa_model.specs.definitions.Objects.{identity_of}
 use Rattle.ssa_model.specs.definitions.History.{Bench, Label, present}
 use Rattle.ssa_model.specs.definitions.Answers as answers
-use Rattle.ssa_model.specs.definitions.Answers.{Command, apply, update, undo, redo, owners, Reply, changed, moved, owned_by, Fault, fault, refused, nothing_to_redo}
+use Rattle.ssa_model.specs.definitions.Answers.{Reply, changed, moved, owned_by, Fault, fault, refused, nothing_to_redo, BenchCommand}
 use Rattle.ssa_model.specs.definitions.FieldsV1.{fields_faults, said_paths, says, IsCanonical}
 use Rattle.ssa_model.specs.definitions.MemberNames.{has_distinct_names}
 use Rattle.ssa_model.specs.definitions.Readings.{ReadFault}
 use Rattle.ssa_model.specs.definitions.Valid.{IsRooted}
+use Rattle.ssa_model.specs.definitions.Commands.{apply, update, undo, redo, owners, change}
 use Rattle.ssa_model.specs.examples.Sample.{main_by, sample_kind, sample_schema, string_json, number_json, replicas_path, port}
 
 abbrev pub sample_object : Members → Members → Json
@@ -70,14 +71,14 @@ shown (answers.logged past future) = labels_are past future
 shown (fault f) = refusal f
 
 -- the replies of a new bench to the commands
-abbrev pub replies : List Command → List Shown
+abbrev pub replies : List BenchCommand → List Shown
 replies cs = map shown (answers.run new_bench cs).0
 
 abbrev pub shown_table : Table → List (Text × List (List Text) × Text)
 shown_table t = map (λ e. (e.manager.name, texts_of e.owned, e.moment)) t
 
 -- the table after the commands
-abbrev pub table_after : List Command → List (Text × List (List Text) × Text)
+abbrev pub table_after : List BenchCommand → List (Text × List (List Text) × Text)
 table_after cs = shown_table (present (answers.run new_bench cs).1.timeline).table
 
 abbrev pub order_of : Option Content → List Text
@@ -85,7 +86,7 @@ order_of (Some (list_branch es)) = map element_text es
 order_of _ = []
 
 -- the order of the ports after the commands
-abbrev pub ports_after : List Command → List Text
+abbrev pub ports_after : List BenchCommand → List Text
 ports_after cs = order_of (get (present (answers.run new_bench cs).1.timeline).body (field (codes "spec") ∷ field (codes "ports") ∷ []))
 
 abbrev pub m1 : Text
@@ -98,29 +99,29 @@ abbrev pub replicas_texts : List Text
 replicas_texts = codes "f:spec" ∷ codes "f:replicas" ∷ []
 
 abbrev pub FirstApply : Type 0
-FirstApply = replies (apply (main_by m1) false (codes "t1") (with_replicas 3) ∷ []) ≡ done (replicas_texts ∷ []) 1 [] [] ∷ []
+FirstApply = replies (change (apply (main_by m1 (codes "t1")) false (with_replicas 3)) ∷ []) ≡ done (replicas_texts ∷ []) 1 [] [] ∷ []
 
-abbrev pub shared : List Command
-shared = apply (main_by m1) false (codes "t1") (with_replicas 3) ∷ apply (main_by m2) false (codes "t2") (with_replicas 3) ∷ []
+abbrev pub shared : List BenchCommand
+shared = change (apply (main_by m1 (codes "t1")) false (with_replicas 3)) ∷ change (apply (main_by m2 (codes "t2")) false (with_replicas 3)) ∷ []
 
 abbrev pub SharedOwnership : Type 0
 SharedOwnership = replies (shared ++ owners replicas_path ∷ []) ≡ done (replicas_texts ∷ []) 1 [] [] ∷ done [] 2 [] [] ∷ owned (m1 ∷ m2 ∷ []) ∷ []
 
 abbrev pub ConflictNamesOwner : Type 0
-ConflictNamesOwner = replies (shared ++ apply (main_by m1) false (codes "t3") (with_replicas 5) ∷ []) ≡ done (replicas_texts ∷ []) 1 [] [] ∷ done [] 2 [] []
+ConflictNamesOwner = replies (shared ++ change (apply (main_by m1 (codes "t3")) false (with_replicas 5)) ∷ []) ≡ done (replicas_texts ∷ []) 1 [] [] ∷ done [] 2 [] []
     ∷ clash ((m2, replicas_texts ∷ []) ∷ []) ∷ []
 
 abbrev pub ForceAndUndo : Type 0
 ForceAndUndo =
-    (replies (shared ++ apply (main_by m1) true (codes "t4") (with_replicas 5) ∷ undo ∷ []) ≡ done (replicas_texts ∷ []) 1 [] [] ∷ done [] 2 [] []
+    (replies (shared ++ change (apply (main_by m1 (codes "t4")) true (with_replicas 5)) ∷ undo ∷ []) ≡ done (replicas_texts ∷ []) 1 [] [] ∷ done [] 2 [] []
     ∷ done [] 1 (replicas_texts ∷ []) [] ∷ at 2 1 ∷ [])
-    × (table_after (shared ++ apply (main_by m1) true (codes "t4") (with_replicas 5) ∷ []) ≡ (m1, replicas_texts ∷ [], codes "t4") ∷ [])
-    × (table_after (shared ++ apply (main_by m1) true (codes "t4") (with_replicas 5) ∷ undo ∷ []) ≡ (m1, replicas_texts ∷ [], codes "t1")
+    × (table_after (shared ++ change (apply (main_by m1 (codes "t4")) true (with_replicas 5)) ∷ []) ≡ (m1, replicas_texts ∷ [], codes "t4") ∷ [])
+    × (table_after (shared ++ change (apply (main_by m1 (codes "t4")) true (with_replicas 5)) ∷ undo ∷ []) ≡ (m1, replicas_texts ∷ [], codes "t1")
     ∷ (m2, replicas_texts ∷ [], codes "t2") ∷ [])
 
 abbrev pub GivenUp : Type 0
 GivenUp =
-    replies (shared ++ apply (main_by m1) false (codes "t3") bare_object ∷ apply (main_by m2) false (codes "t4") bare_object ∷ undo ∷ undo ∷ [])
+    replies (shared ++ change (apply (main_by m1 (codes "t3")) false bare_object) ∷ change (apply (main_by m2 (codes "t4")) false bare_object) ∷ undo ∷ undo ∷ [])
     ≡ done (replicas_texts ∷ []) 1 [] [] ∷ done [] 2 [] [] ∷ done [] 1 [] [] ∷ done [] 0 [] ((codes "f:spec" ∷ []) ∷ replicas_texts ∷ []) ∷ at 3 1 ∷ at 2 2 ∷ []
 
 abbrev pub port_texts : Text → List Text
@@ -133,9 +134,9 @@ port_with_proto name number =
 
 abbrev pub KeyFieldsStay : Type 0
 KeyFieldsStay =
-    replies (apply (main_by m1) false (codes "t1") (with_ports (item (port_with_proto (codes "a") 80) no_items))
-    ∷ update (main_by (codes "u")) (codes "t2") (with_ports (item (port_with_proto (codes "a") 81) no_items))
-    ∷ apply (main_by m1) false (codes "t3") bare_object ∷ [])
+    replies (change (apply (main_by m1 (codes "t1")) false (with_ports (item (port_with_proto (codes "a") 80) no_items)))
+    ∷ change (update (main_by (codes "u") (codes "t2")) (with_ports (item (port_with_proto (codes "a") 81) no_items)))
+    ∷ change (apply (main_by m1 (codes "t3")) false bare_object) ∷ [])
     ≡ done ((port_texts (codes "a")) ∷ (port_texts (codes "a") ++ codes "f:name" ∷ []) ∷ (port_texts (codes "a") ++ codes "f:port" ∷ [])
     ∷ (port_texts (codes "a") ++ codes "f:proto" ∷ []) ∷ []) 1 [] []
     ∷ done [] 2 ((port_texts (codes "a") ++ codes "f:port" ∷ []) ∷ []) []
@@ -149,17 +150,17 @@ port_points n = port_texts n ∷ (port_texts n ++ codes "f:name" ∷ []) ∷ (po
 
 abbrev pub RemovedItemReturns : Type 0
 RemovedItemReturns =
-    (replies (apply (main_by m1) false (codes "t1") (with_ports abc)
-    ∷ update (main_by (codes "u")) (codes "t2") (with_ports (item (port (codes "a") 1) (item (port (codes "c") 3) no_items))) ∷ undo ∷ [])
+    (replies (change (apply (main_by m1 (codes "t1")) false (with_ports abc))
+    ∷ change (update (main_by (codes "u") (codes "t2")) (with_ports (item (port (codes "a") 1) (item (port (codes "c") 3) no_items)))) ∷ undo ∷ [])
     ≡ done (port_points (codes "a") ++ port_points (codes "b") ++ port_points (codes "c")) 1 [] [] ∷ done [] 1 [] (port_points (codes "b")) ∷ at 1 1 ∷ [])
-    × (ports_after (apply (main_by m1) false (codes "t1") (with_ports abc)
-    ∷ update (main_by (codes "u")) (codes "t2") (with_ports (item (port (codes "a") 1) (item (port (codes "c") 3) no_items))) ∷ undo ∷ [])
+    × (ports_after (change (apply (main_by m1 (codes "t1")) false (with_ports abc))
+    ∷ change (update (main_by (codes "u") (codes "t2")) (with_ports (item (port (codes "a") 1) (item (port (codes "c") 3) no_items)))) ∷ undo ∷ [])
     ≡ codes "k:{\"name\":\"a\"}" ∷ codes "k:{\"name\":\"b\"}" ∷ codes "k:{\"name\":\"c\"}" ∷ [])
 
 abbrev pub ReorderGivesNothing : Type 0
 ReorderGivesNothing =
-    let cs = apply (main_by m1) false (codes "t1") (with_ports abc)
-    ∷ update (main_by (codes "u")) (codes "t2") (with_ports (item (port (codes "c") 3) (item (port (codes "b") 2) (item (port (codes "a") 1) no_items)))) ∷ [] in
+    let cs = change (apply (main_by m1 (codes "t1")) false (with_ports abc))
+    ∷ change (update (main_by (codes "u") (codes "t2")) (with_ports (item (port (codes "c") 3) (item (port (codes "b") 2) (item (port (codes "a") 1) no_items))))) ∷ [] in
     (replies cs ≡ done (port_points (codes "a") ++ port_points (codes "b") ++ port_points (codes "c")) 1 [] [] ∷ done [] 1 [] [] ∷ [])
     × (ports_after cs ≡ codes "k:{\"name\":\"c\"}" ∷ codes "k:{\"name\":\"b\"}" ∷ codes "k:{\"name\":\"a\"}" ∷ [])
     × (table_after cs ≡ (m1, port_points (codes "a") ++ port_points (codes "b") ++ port_points (codes "c"), codes "t1") ∷ [])
@@ -173,7 +174,7 @@ image_texts = codes "f:spec" ∷ codes "f:image" ∷ []
 
 abbrev pub OperationsAreKeys : Type 0
 OperationsAreKeys =
-    replies (update (main_by (codes "m")) (codes "t1") (with_image (codes "a:1")) ∷ apply (main_by (codes "m")) false (codes "t2") (with_image (codes "a:2")) ∷ [])
+    replies (change (update (main_by (codes "m") (codes "t1")) (with_image (codes "a:1"))) ∷ change (apply (main_by (codes "m") (codes "t2")) false (with_image (codes "a:2"))) ∷ [])
     ≡ done (image_texts ∷ []) 1 [] [] ∷ clash ((codes "m", image_texts ∷ []) ∷ []) ∷ []
 
 abbrev pub image_and_replicas : ℕ → Json
@@ -181,14 +182,14 @@ image_and_replicas n = object_with (member (codes "image") (string_json (codes "
 
 abbrev pub ForceTakesModifiedAlone : Type 0
 ForceTakesModifiedAlone =
-    let cs = apply (main_by m1) false (codes "t1") (image_and_replicas 3) ∷ apply (main_by m2) true (codes "t2") (image_and_replicas 4) ∷ [] in
+    let cs = change (apply (main_by m1 (codes "t1")) false (image_and_replicas 3)) ∷ change (apply (main_by m2 (codes "t2")) true (image_and_replicas 4)) ∷ [] in
     (replies cs ≡ done (image_texts ∷ replicas_texts ∷ []) 1 [] [] ∷ done [] 2 (replicas_texts ∷ []) [] ∷ [])
     × (table_after cs ≡ (m1, image_texts ∷ [], codes "t1") ∷ (m2, image_texts ∷ replicas_texts ∷ [], codes "t2") ∷ [])
 
 abbrev pub LiveItemsFirst : Type 0
 LiveItemsFirst =
-    ports_after (update (main_by (codes "u")) (codes "t1") (with_ports (item (port (codes "a") 1) (item (port (codes "b") 2) no_items)))
-    ∷ apply (main_by m1) false (codes "t2") (with_ports (item (port (codes "c") 3) (item (port (codes "a") 1) no_items))) ∷ [])
+    ports_after (change (update (main_by (codes "u") (codes "t1")) (with_ports (item (port (codes "a") 1) (item (port (codes "b") 2) no_items))))
+    ∷ change (apply (main_by m1 (codes "t2")) false (with_ports (item (port (codes "c") 3) (item (port (codes "a") 1) no_items)))) ∷ [])
     ≡ codes "k:{\"name\":\"a\"}" ∷ codes "k:{\"name\":\"b\"}" ∷ codes "k:{\"name\":\"c\"}" ∷ []
 
 abbrev pub with_labels : Members → Json
@@ -199,13 +200,13 @@ app_label = codes "f:metadata" ∷ codes "f:labels" ∷ codes "f:app" ∷ []
 
 abbrev pub EmptyDictIsPoint : Type 0
 EmptyDictIsPoint =
-    replies (apply (main_by m1) false (codes "t1") (with_labels (member (codes "app") (string_json (codes "web")) no_members))
-    ∷ apply (main_by m2) false (codes "t2") (with_labels no_members) ∷ apply (main_by m1) false (codes "t3") bare_object ∷ [])
+    replies (change (apply (main_by m1 (codes "t1")) false (with_labels (member (codes "app") (string_json (codes "web")) no_members)))
+    ∷ change (apply (main_by m2 (codes "t2")) false (with_labels no_members)) ∷ change (apply (main_by m1 (codes "t3")) false bare_object) ∷ [])
     ≡ done (app_label ∷ []) 1 [] [] ∷ done [] 2 [] [] ∷ done [] 1 [] (app_label ∷ []) ∷ []
 
 abbrev pub RefusedKeepsFuture : Type 0
 RefusedKeepsFuture =
-    replies (shared ++ undo ∷ apply (main_by m2) false (codes "t5") (with_replicas 9) ∷ redo ∷ undo ∷ apply (main_by m2) false (codes "t6") (with_replicas 3) ∷ redo ∷ [])
+    replies (shared ++ undo ∷ change (apply (main_by m2 (codes "t5")) false (with_replicas 9)) ∷ redo ∷ undo ∷ change (apply (main_by m2 (codes "t6")) false (with_replicas 3)) ∷ redo ∷ [])
     ≡ done (replicas_texts ∷ []) 1 [] [] ∷ done [] 2 [] [] ∷ at 1 1 ∷ clash ((m1, replicas_texts ∷ []) ∷ []) ∷ at 2 0 ∷ at 1 1 ∷ done [] 2 [] []
     ∷ refusal nothing_to_redo ∷ []
 

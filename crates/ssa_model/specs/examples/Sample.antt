@@ -6,9 +6,9 @@ use Rattle.ssa_model.specs.definitions.Kind.{Kind, texts, wholes, scalar_kind, a
 use Rattle.ssa_model.specs.definitions.Parts.{main, Actor}
 use Rattle.ssa_model.specs.definitions.Schema.{Schema}
 
--- who acts through no subresource
-abbrev pub main_by : Text → Actor
-main_by n = record { name = n; part = main }
+-- who acts through no subresource, at a moment
+abbrev pub main_by : Text → Text → Actor
+main_by n at = record { name = n; part = main; moment = at }
 
 abbrev pub string_json : Text → Json
 string_json t = scalar (text t)

@@ -3,9 +3,9 @@ use Rattle.std.specs.Prelude.{◌≡◌, [], ◌∷◌, Result, Ok, Err, codes, 
 use Rattle.ssa_model.specs.definitions.Json.{Text, Json, list, object, no_items, item, no_members}
 use Rattle.ssa_model.specs.definitions.History.{Bench}
 use Rattle.ssa_model.specs.definitions.Readings.{ReadFault, not_json, null_value, number_outside}
-use Rattle.ssa_model.specs.definitions.Answers as answers
 use Rattle.ssa_model.specs.definitions.Answers.{answer, run}
-use Rattle.ssa_model.specs.definitions.Subcommands.{Asked, apply, update, strip, undo, redo, show, owners, log, asked_answer, init_text, is_accepted, is_change}
+use Rattle.ssa_model.specs.definitions.Subcommands.{Asked, asked_answer, init_text, is_accepted, is_change}
+use Rattle.ssa_model.specs.definitions.Commands.{apply, update, strip, undo, redo, show, owners, log, change}
 use Rattle.ssa_model.specs.examples.Sample.{main_by, number_json}
 use Rattle.ssa_model.specs.examples.Rows.{m1, new_bench, with_replicas}
 use Rattle.ssa_model.specs.examples.MoreRows.{texts_json}
@@ -21,10 +21,10 @@ bench_after bench asked given = (asked_answer (reading_as given) bench asked).1
 
 -- `t1` is the one moment
 abbrev pub apply_at : Text → Asked
-apply_at at = apply (main_by m1) false at (codes "the file")
+apply_at at = change (apply (main_by m1 at) false (codes "the file"))
 
 abbrev pub update_at : Text → Asked
-update_at at = update (main_by m1) at (codes "the file")
+update_at at = change (update (main_by m1 at) (codes "the file"))
 
 -- a subcommand that names no file and no path
 abbrev pub told_alone : Bench → Asked → Text
@@ -39,11 +39,11 @@ FilesAreAccepted =
     (told_for new_bench (apply_at (codes "t1")) (Ok (with_replicas 3))
     ≡ codes "{\"added\":[[\"f:spec\",\"f:replicas\"]],\"done\":\"apply\",\"managers\":1,\"modified\":[],\"removed\":[]}")
     × (bench_after new_bench (apply_at (codes "t1")) (Ok (with_replicas 3))
-    ≡ (run new_bench (answers.apply (main_by m1) false (codes "t1") (with_replicas 3) ∷ [])).1)
+    ≡ (run new_bench (change (apply (main_by m1 (codes "t1")) false (with_replicas 3)) ∷ [])).1)
     × (told_for new_bench (update_at (codes "t1")) (Ok (with_replicas 3))
     ≡ codes "{\"added\":[[\"f:spec\",\"f:replicas\"]],\"done\":\"update\",\"managers\":1,\"modified\":[],\"removed\":[]}")
     × (bench_after new_bench (update_at (codes "t1")) (Ok (with_replicas 3))
-    ≡ (run new_bench (answers.update (main_by m1) (codes "t1") (with_replicas 3) ∷ [])).1)
+    ≡ (run new_bench (change (update (main_by m1 (codes "t1")) (with_replicas 3)) ∷ [])).1)
 
 -- Files that are no values, moments that are none, and an object that the bench refuses. The file's fault comes before the moment's,
 -- the moment's before the object's; and the bench stays.
@@ -73,7 +73,7 @@ PathsAreRead =
 -- The subcommands that name neither, by their replies.
 abbrev pub OthersAreAnswered : Type 0
 OthersAreAnswered =
-    (told_alone after_shared strip ≡ codes "{\"added\":[],\"done\":\"strip\",\"managers\":0,\"modified\":[],\"removed\":[]}")
+    (told_alone after_shared (change strip) ≡ codes "{\"added\":[],\"done\":\"strip\",\"managers\":0,\"modified\":[],\"removed\":[]}")
     × (told_alone after_shared undo ≡ codes "{\"done\":\"undo\",\"future\":1,\"past\":1}")
     × (told_alone new_bench undo ≡ codes "{\"fault\":64,\"name\":\"NothingToUndo\"}")
     × (told_alone new_bench redo ≡ codes "{\"fault\":65,\"name\":\"NothingToRedo\"}")
@@ -86,7 +86,7 @@ abbrev pub BenchesAreMade : Type 0
 BenchesAreMade =
     (init_text new_bench ≡ codes "{\"done\":\"init\",\"managers\":0,\"paths\":0}")
     × (init_text after_shared ≡ codes "{\"done\":\"init\",\"managers\":2,\"paths\":2}")
-    × (is_accepted (answer after_shared answers.undo).0 ≡ true)
-    × (is_accepted (answer new_bench answers.undo).0 ≡ false)
-    × (is_change answers.undo ≡ true)
-    × (is_change (answers.show true) ≡ false)
+    × (is_accepted (answer after_shared undo).0 ≡ true)
+    × (is_accepted (answer new_bench undo).0 ≡ false)
+    × (is_change undo ≡ true)
+    × (is_change (show true) ≡ false)

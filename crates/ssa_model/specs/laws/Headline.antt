@@ -6,10 +6,11 @@ use Rattle.ssa_model.specs.definitions.Parts.{Actor, part_of}
 use Rattle.ssa_model.specs.definitions.Keys.{applies, key_of}
 use Rattle.ssa_model.specs.definitions.Operations.{State, Clash, clashes, conflict, pruned}
 use Rattle.ssa_model.specs.definitions.History.{Bench, Step, Timeline, past_len, future_len, forgotten, last_state, present}
-use Rattle.ssa_model.specs.definitions.Answers.{Answer, Command, Fault, apply, undo, redo, fault, moved, refused, answer, command_body, run}
+use Rattle.ssa_model.specs.definitions.Answers.{Answer, Fault, fault, moved, refused, answer, command_body, run, BenchCommand, Deed}
 use Rattle.ssa_model.specs.definitions.Readings.{Readings}
 use Rattle.ssa_model.specs.definitions.Session.{line_answer, out_of_memory_text, too_long_text}
-use Rattle.ssa_model.specs.definitions.Effect.{AreSteps, Deed, Deeds, IsHistory, all_carried_out, deeds_of_run, deeds_to, in_effect, is_accepted}
+use Rattle.ssa_model.specs.definitions.Effect.{AreSteps, Deeds, IsHistory, all_carried_out, deeds_of_run, deeds_to, in_effect, made_a_state}
+use Rattle.ssa_model.specs.definitions.Commands.{apply, undo, redo, change}
 
 -- the timeline has one state, as that of a bench made from an object file
 abbrev pub IsAlone : Timeline → Type 0
@@ -17,21 +18,21 @@ IsAlone t = (t.later ≡ []) × (t.place ≡ 0)
 
 -- a list of commands is carried out by one part of it after the other
 abbrev pub RunsGoOn : Type 0
-RunsGoOn = (bench : Bench) (cs ds : List Command) → run bench (cs ++ ds) ≡ ((run bench cs).0 ++ (run (run bench cs).1 ds).0, (run (run bench cs).1 ds).1)
+RunsGoOn = (bench : Bench) (cs ds : List BenchCommand) → run bench (cs ++ ds) ≡ ((run bench cs).0 ++ (run (run bench cs).1 ds).0, (run (run bench cs).1 ds).1)
 
 -- the state at the place is the commands in effect, carried out one after the other on the state that the bench was made from
 abbrev pub RunIsInEffect : Type 0
-RunIsInEffect = (bench : Bench) (cs : List Command) → IsAlone bench.timeline
+RunIsInEffect = (bench : Bench) (cs : List BenchCommand) → IsAlone bench.timeline
     → all_carried_out bench.timeline.first (in_effect bench cs) ≡ Ok (present (run bench cs).1.timeline)
 
 -- After a list of commands on a bench whose states are made by deeds, so are the states: by these and the accepted commands'.
-pub record KeepsRun (origin : State) (bench : Bench) (before : Deeds) (cs : List Command) : Type 0 where
+pub record KeepsRun (origin : State) (bench : Bench) (before : Deeds) (cs : List BenchCommand) : Type 0 where
   pub history : IsHistory origin (run bench cs).1.timeline
   pub deeds : history.deeds ≡ deeds_of_run bench before cs
   pub state : all_carried_out origin (deeds_to (run bench cs).1.timeline.place history.deeds) ≡ Ok (present (run bench cs).1.timeline)
 
 abbrev pub RunKeepsHistory : Type 0
-RunKeepsHistory = (origin : State) (bench : Bench) (cs : List Command) (before : IsHistory origin bench.timeline) → KeepsRun origin bench before.deeds cs
+RunKeepsHistory = (origin : State) (bench : Bench) (cs : List BenchCommand) (before : IsHistory origin bench.timeline) → KeepsRun origin bench before.deeds cs
 
 -- What stands after commands on a history, whatever made the states that were there: those of them up to a place, and behind these others,
 -- each its deed carried out on the one before it. Of all of these the oldest are forgotten.
@@ -48,7 +49,7 @@ pub record GoesOn (old new : Timeline) : Type 0 where
 
 -- after a list of commands on any bench its history goes on so
 abbrev pub RunGoesOn : Type 0
-RunGoesOn = (bench : Bench) (cs : List Command) → bench.timeline.place ≤ length bench.timeline.later → GoesOn bench.timeline (run bench cs).1.timeline
+RunGoesOn = (bench : Bench) (cs : List BenchCommand) → bench.timeline.place ≤ length bench.timeline.later → GoesOn bench.timeline (run bench cs).1.timeline
 
 -- the states up to the place
 abbrev pub up_to_place : Timeline → Timeline
@@ -70,7 +71,7 @@ pub record IsRestored (bench : Bench) (given : Answer) : Type 0 where
 
 -- undo after an accepted command restores everything but what is forgotten; that command alone can then be done again
 abbrev pub UndoRestoresAll : Type 0
-UndoRestoresAll = (bench : Bench) (c : Command) → 0 < bench.depth → bench.timeline.place ≤ length bench.timeline.later → is_accepted (answer bench c).0 ≡ true
+UndoRestoresAll = (bench : Bench) (c : BenchCommand) → 0 < bench.depth → bench.timeline.place ≤ length bench.timeline.later → made_a_state (answer bench c).0 ≡ true
     → IsRestored bench (answer (answer bench c).1 undo)
 
 -- redo after undo restores the whole timeline
@@ -80,7 +81,7 @@ RedoRestoresAll = (bench : Bench) → 0 < past_len bench.timeline → bench.time
 
 -- every refusal changes nothing
 abbrev pub RefusalsChangeNothing : Type 0
-RefusalsChangeNothing = (bench : Bench) (c : Command) (f : Fault) → (answer bench c).0 ≡ fault f → (answer bench c).1 ≡ bench
+RefusalsChangeNothing = (bench : Bench) (c : BenchCommand) (f : Fault) → (answer bench c).0 ≡ fault f → (answer bench c).1 ≡ bench
 
 -- the clashes of an Apply without force of the configuration: the other managers, and exactly their fields that would change
 pub record IsConflictOf (bench : Bench) (who : Actor) (force : Bool) (v : Json) (cs : List Clash) : Type 0 where
@@ -95,8 +96,8 @@ pub record IsConflictOf (bench : Bench) (who : Actor) (force : Bool) (v : Json) 
 -- a conflict lists exactly the managers and fields concerned
 abbrev pub ConflictsListClashes : Type 0
 ConflictsListClashes =
-    (bench : Bench) (who : Actor) (force : Bool) (at : Text) (v : Json) (cs : List Clash)
-    → (answer bench (apply who force at v)).0 ≡ fault (refused (conflict cs)) → IsConflictOf bench who force v cs
+    (bench : Bench) (who : Actor) (force : Bool) (v : Json) (cs : List Clash)
+    → (answer bench (change (apply who force v))).0 ≡ fault (refused (conflict cs)) → IsConflictOf bench who force v cs
 
 -- no answer to a line is told as want of memory is
 abbrev pub AnswersAreTold : Type 0

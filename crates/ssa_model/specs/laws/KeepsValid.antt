@@ -12,8 +12,8 @@ use Rattle.ssa_model.specs.definitions.Table.{Table, seat}
 use Rattle.ssa_model.specs.definitions.Fitting.{IsBodyOf}
 use Rattle.ssa_model.specs.definitions.Operations.{State, apply, update, strip, pruned}
 use Rattle.ssa_model.specs.definitions.History.{is_manager_name, Timeline, Label, Bench, present, appended, advanced, held, moved_to, future_len}
-use Rattle.ssa_model.specs.definitions.Answers.{Command, answer}
-use Rattle.ssa_model.specs.definitions.Effect.{is_accepted}
+use Rattle.ssa_model.specs.definitions.Answers.{answer, BenchCommand}
+use Rattle.ssa_model.specs.definitions.Effect.{made_a_state}
 use Rattle.ssa_model.specs.definitions.Keys.{ManagerKey}
 
 abbrev pub OverKeepsFit : Type 0
@@ -95,7 +95,7 @@ UndoRestores =
 
 abbrev pub AcceptedGoesOn : Type 0
 AcceptedGoesOn =
-    (bench : Bench) (c : Command) → has_distinct_keys (present bench.timeline).table ≡ true → is_accepted (answer bench c).0 ≡ true
+    (bench : Bench) (c : BenchCommand) → has_distinct_keys (present bench.timeline).table ≡ true → made_a_state (answer bench c).0 ≡ true
     → (label : Label) × (s : State) × ((answer bench c).1 ≡ advanced bench label s) × IsNextStep bench.timeline label s
 
 abbrev pub NextKeepsHistory : Type 0
