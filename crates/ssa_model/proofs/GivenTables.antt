@@ -10,7 +10,7 @@ use Rattle.ssa_model.specs.definitions.Body.{Body, is_ownable}
 use Rattle.ssa_model.specs.definitions.Table.{Entry, Table, is_in_table}
 use Rattle.ssa_model.specs.definitions.Readings.{Readings}
 use Rattle.ssa_model.specs.definitions.ElementTexts.{ElementFault}
-use Rattle.ssa_model.specs.definitions.GivenEntries.{EntryFault, too_many_managers, bad_entry, manager_name, other_version, bad_moment, of_fields, empty_entry, absent_path, duplicate_manager, is_entry, not_ownable, said_entry, owned_fault, entry_fault, next_entry, table_behind}
+use Rattle.ssa_model.specs.definitions.GivenEntries.{EntryFault, too_many_managers, bad_entry, manager_name, other_version, bad_moment, of_fields, empty_entry, absent_path, duplicate_manager, is_entry, not_ownable, said_entry, owned_fault, entry_fault, value_entry, next_entry, table_behind}
 use Rattle.ssa_model.specs.definitions.History.{is_manager_name}
 use Rattle.ssa_model.specs.definitions.Valid.{OwnsOwnable, AllEntries, IsTable}
 use Rattle.ssa_model.proofs.Lists.{is_one_of-filter}
@@ -72,9 +72,7 @@ module _ (readings : Readings) (body : Body) (version : Text) where
     faultless : owned_fault body before e ≡ None
 
   next-value : (full : Bool) (before : Table) (v : Json) (e : Entry) → nat_le most_managers (length before) ≡ full
-      → ◌≡◌ {A = Result Entry EntryFault} (if full then Err too_many_managers else (if not (is_entry v) then Err
-      bad_entry else (elim (entry_fault readings body version before v) [ Some f ↦ Err f | None ↦ Ok (said_entry readings v) ]))) (Ok e)
-      → IsNext before e
+      → ◌≡◌ {A = Result Entry EntryFault} (if full then Err too_many_managers else value_entry readings body version before v) (Ok e) → IsNext before e
   next-value true before v e room one = cc
   next-value false before v e room one =
       let own = said (is_entry v) (entry_fault readings body version before v) (said_entry readings v) e one in

@@ -14,7 +14,7 @@ use Rattle.ssa_model.specs.definitions.Table.{Entry, Table, is_in_table}
 use Rattle.ssa_model.specs.definitions.Readings.{Readings}
 use Rattle.ssa_model.specs.definitions.FieldsV1.{fields_json, fields_faults}
 use Rattle.ssa_model.specs.definitions.Entries.{entry_json, entry_items}
-use Rattle.ssa_model.specs.definitions.GivenEntries.{EntryFault, too_many_managers, bad_entry, manager_name, other_version, bad_moment, of_fields, empty_entry, absent_path, duplicate_manager, is_entry, not_ownable, owned_fault, said_entry, entry_fault, next_entry, table_behind}
+use Rattle.ssa_model.specs.definitions.GivenEntries.{EntryFault, too_many_managers, bad_entry, manager_name, other_version, bad_moment, of_fields, empty_entry, absent_path, duplicate_manager, is_entry, not_ownable, owned_fault, said_entry, entry_fault, value_entry, next_entry, table_behind}
 use Rattle.ssa_model.specs.definitions.History.{is_manager_name}
 use Rattle.ssa_model.specs.definitions.BenchFile.{IsReadBack}
 use Rattle.ssa_model.specs.definitions.Valid.{has_distinct_keys, OwnsOwnable, AllEntries, IsTable}
@@ -119,9 +119,7 @@ module _ (readings : Readings) (body : Body) (version : Text) where
   entry-back : (before : Table) (e : Entry) → IsGood e → is_in_table before e.manager ≡ false → length before < most_managers
       → next_entry readings body version before (entry_json (text_json version) e) ≡ Ok e
   entry-back before e g new short =
-      ap (λ t. if t then Err too_many_managers else (if not (is_entry (written e)) then Err
-      bad_entry else (elim (entry_fault readings body version before (written e)) [ Some f ↦ Err f | None ↦ Ok (said_entry readings (written e)) ])))
-      (few (length before) short)
+      ap (λ t. if t then Err too_many_managers else value_entry readings body version before (written e)) (few (length before) short)
       ∙ ap (λ t. if not t then Err bad_entry else (elim (entry_fault readings body version before (written e))
       [ Some f ↦ Err f | None ↦ Ok (said_entry readings (written e)) ]))
       (entry-is version (fields_json e.owned) e.manager.name e.manager.operation e.manager.part e.moment)

@@ -34,9 +34,12 @@ entry_shape type fields moment =
     must_have (codes "apiVersion") is_text ∷ must_have (codes "fieldsType") type ∷ must_have (codes "fieldsV1") fields
     ∷ key_shape ++ must_have (codes "time") moment ∷ []
 
--- exactly the members of an entry, of the type FieldsV1
+-- of the type FieldsV1
+abbrev pub given_shape : List MemberShape
+given_shape = entry_shape (same_json (text_json (codes "FieldsV1"))) is_anything is_text
+
 abbrev pub is_entry : Test
-is_entry = has_members (entry_shape (same_json (text_json (codes "FieldsV1"))) is_anything is_text)
+is_entry = has_members given_shape
 
 -- ---- entry by entry
 
@@ -66,11 +69,13 @@ module _ (readings : Readings) where
         [ f ∷ fs ↦ Some (of_fields f) | [] ↦ owned_fault body before (said_entry v) ])))
 
     -- the entry that a value says behind these entries, or its first fault
+    abbrev pub value_entry : Table → Json → Result Entry EntryFault
+    value_entry before v =
+        if not (is_entry v) then Err bad_entry else (elim (entry_fault before v) [ Some f ↦ Err f | None ↦ Ok (said_entry v) ])
+
+    -- the same, where there is room for one
     abbrev pub next_entry : Table → Json → Result Entry EntryFault
-    next_entry before v =
-        if nat_le most_managers (length before) then Err too_many_managers
-        else (if not (is_entry v) then Err bad_entry
-        else (elim (entry_fault before v) [ Some f ↦ Err f | None ↦ Ok (said_entry v) ]))
+    next_entry before v = if nat_le most_managers (length before) then Err too_many_managers else value_entry before v
 
     -- these entries and those of the items
     abbrev pub table_behind : Table → Items → Result Table EntryFault

@@ -89,13 +89,19 @@ may_have n t = record { name = n; test = t; required = false }
 abbrev pub has_member : Text → Members → Bool
 has_member n ms = is_some (member_of n ms)
 
+abbrev pub is_member_of : List MemberShape → Text → Json → Bool
+is_member_of shapes n v = list_any (λ s. same_text n s.name && s.test v) shapes
+
 abbrev pub are_members_of : List MemberShape → Members → Bool
 are_members_of shapes no_members = true
-are_members_of shapes (member n v ms) = list_any (λ s. same_text n s.name && s.test v) shapes && are_members_of shapes ms
+are_members_of shapes (member n v ms) = is_member_of shapes n v && are_members_of shapes ms
+
+abbrev pub are_all_there : List MemberShape → Members → Bool
+are_all_there shapes ms = list_all (λ s. not s.required || has_member s.name ms) shapes
 
 -- an object with these members and no others
 abbrev pub has_members : List MemberShape → Test
-has_members shapes (object ms) = are_members_of shapes ms && list_all (λ s. not s.required || has_member s.name ms) shapes
+has_members shapes (object ms) = are_members_of shapes ms && are_all_there shapes ms
 has_members shapes _ = false
 
 -- a list of the values of such members: of all of them, or of those alone that must be there
