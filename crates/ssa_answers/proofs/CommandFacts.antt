@@ -11,12 +11,11 @@ use Rattle.std.specs.Ordering.{is_eq}
 use Rattle.ssa_members.specs.Members.{text_cmp}
 use Rattle.std.specs.Str.{bytes_eq}
 use Rattle.ssa_model.specs.definitions.Json.{Text, text, whole, truth, Json, scalar, list, object, Items, Members, no_members, member, member_of, same_text, as_text}
-use Rattle.ssa_model.specs.definitions.Values.{has_member, is_text, list_of_texts, texts_of, truth_in, text_in, texts_in, value_in}
-use Rattle.ssa_model.specs.definitions.Commands as given
-use Rattle.ssa_model.specs.definitions.Commands.{MemberRule, CommandRule, rule_of, word_of, is_known_member, are_known_members, follows_rule, command_with}
+use Rattle.ssa_model.specs.definitions.Values.{MemberShape, is_member_of, are_members_of, has_member, is_text, list_of_texts, texts_of, truth_in, text_in}
+use Rattle.ssa_model.specs.definitions.Commands.{Command, show, CommandRule, session_rules, rule_among, follows_rule, said_command, command_read}
 use Rattle.ssa_model.specs.definitions.Parts.{Subresource, status}
-use Rattle.ssa_model.specs.definitions.Answers as answers
-use Rattle.ssa_model.specs.definitions.Session.{LineFault, bad_moment, command_shape, has_moment, with_path, read_command}
+use Rattle.ssa_model.specs.definitions.Answers.{BenchCommand}
+use Rattle.ssa_model.specs.definitions.Session.{LineFault, command_shape, timely, given_path, read_command}
 use Rattle.ssa_model.specs.definitions.Keys.{is_subresource, subresource_in}
 use Rattle.ssa_json.specs.View.{view, members_view}
 use Rattle.ssa_json.specs.declared.value.Json as values
@@ -26,32 +25,22 @@ use Rattle.ssa_answers.specs.declared.command_shape.Word.{Word}
 use Rattle.ssa_answers.specs.declared.command_shape.Word.TheVariants.{Apply, Update, Strip, Undo, Redo, Show, Owners, Log}
 use Rattle.ssa_told.specs.PathTexts.{as_list}
 use Rattle.ssa_json.specs.Readings.{readings}
-use Rattle.ssa_answers.specs.Commands.{word_text, member_rules, rule_at, HasRequest}
+use Rattle.ssa_answers.specs.Commands.{given_word, word_text, shape_at, rule_at, HasRequest}
 
 -- what a value is read as
-abbrev pub meaning : Json → Result answers.Command LineFault
+abbrev pub meaning : Json → Result BenchCommand LineFault
 meaning = read_command readings
 
-abbrev by_rule : Members → Text → Option CommandRule → Option given.Command
-by_rule ms word r = elim r [ None ↦ None | Some rule ↦ (if follows_rule ms rule then Some (command_with word ms) else None) ]
-
-abbrev by_word : Members → Option Text → Option given.Command
-by_word ms w = elim w [ None ↦ None | Some word ↦ by_rule ms word (rule_of word) ]
+abbrev by_rule : Json → Option CommandRule → Option (Command Json (List Text))
+by_rule v r = option_and_then (λ rule. if follows_rule rule v then Some (said_command rule.word v) else None) r
 
 -- what is told of the command of a value: its shape, its moment, its path, or the command itself
-abbrev pub told : Option given.Command → Result answers.Command LineFault
-told o = elim o [
-  | None ↦ Err command_shape
-  | Some c ↦ (if has_moment readings c then with_path readings c else Err bad_moment)
-]
+abbrev pub told : Option (Command Json (List Text)) → Result BenchCommand LineFault
+told o = elim o [ Some c ↦ command_read (timely readings) (given_path readings) c | None ↦ Err command_shape ]
 
 -- ---- by the word
 
-no_word : (ms : Members) (w : Option Text) → option_and_then (rule_of) w ≡ None → by_word ms w ≡ None
-no_word ms None none = refl
-no_word ms (Some word) none = ap (by_rule ms word) none
-
-rule_of-word : (word : Word) → rule_of (word_text word) ≡ Some (rule_at word)
+rule_of-word : (word : Word) → rule_among session_rules (word_text word) ≡ Some (rule_at word)
 rule_of-word Apply = refl
 rule_of-word Update = refl
 rule_of-word Strip = refl
@@ -61,36 +50,46 @@ rule_of-word Show = refl
 rule_of-word Owners = refl
 rule_of-word Log = refl
 
+rule-word : (word : Word) → (rule_at word).word ≡ word_text word
+rule-word Apply = refl
+rule-word Update = refl
+rule-word Strip = refl
+rule-word Undo = refl
+rule-word Redo = refl
+rule-word Show = refl
+rule-word Owners = refl
+rule-word Log = refl
+
 -- an object with a word is read as the command of this word where its members follow the word's rule
-pub meaning-word : (ms : Members) (word : Word) (b : Bool) → word_of ms ≡ Some (word_text word) → follows_rule ms (rule_at word) ≡ b
-    → meaning (object ms) ≡ told (if b then Some (command_with (word_text word) ms) else None)
+pub meaning-word : (ms : Members) (word : Word) (b : Bool) → given_word ms ≡ Some (word_text word) → follows_rule (rule_at word) (object ms) ≡ b
+    → meaning (object ms) ≡ told (if b then Some (said_command (word_text word) (object ms)) else None)
 meaning-word ms word b is follows =
-    ap (λ w. told (by_word ms w)) is ∙ ap (λ r. told (by_rule ms (word_text word) r)) (rule_of-word word)
-    ∙ ap (λ t. told (if t then Some (command_with (word_text word) ms) else None)) follows
+    ap (λ w. told (by_rule (object ms) (option_and_then (rule_among session_rules) w))) is ∙ ap (λ r. told (by_rule (object ms) r)) (rule_of-word word)
+    ∙ (λ i. told (if follows i then Some (said_command (rule-word word i) (object ms)) else None))
 
 -- ---- by the members
 
 -- a member of a value whose members are all known is a known member
-pub known_member : (rules : List MemberRule) (ms : Members) (n : Text) (v : Json) → are_known_members rules ms ≡ true → member_of n ms ≡ Some v
-    → is_known_member rules n v ≡ true
-known_member rules no_members n v known is = cc
-known_member rules (member m w rest) n v known is =
-    let parts = and_parts (is_known_member rules m w) (are_known_members rules rest) known in
-    elim (same_text n m) as (λ b. same_text n m ≡ b → cond b (Some w) (member_of n rest) ≡ Some v → is_known_member rules n v ≡ true) [
-      | true ↦ λ same here. let names : n ≡ m = same_text-true n m same in let values : w ≡ v = cc in (λ i. is_known_member rules (names i) (sym values i))
+pub known_member : (shapes : List MemberShape) (ms : Members) (n : Text) (v : Json) → are_members_of shapes ms ≡ true → member_of n ms ≡ Some v
+    → is_member_of shapes n v ≡ true
+known_member shapes no_members n v known is = cc
+known_member shapes (member m w rest) n v known is =
+    let parts = and_parts (is_member_of shapes m w) (are_members_of shapes rest) known in
+    elim (same_text n m) as (λ b. same_text n m ≡ b → cond b (Some w) (member_of n rest) ≡ Some v → is_member_of shapes n v ≡ true) [
+      | true ↦ λ same here. let names : n ≡ m = same_text-true n m same in let values : w ≡ v = cc in (λ i. is_member_of shapes (names i) (sym values i))
           ∙ parts.0
-      | false ↦ λ _ later. known_member rules rest n v parts.1 later
+      | false ↦ λ _ later. known_member shapes rest n v parts.1 later
     ] refl is
 
 -- an object with the word show that follows its rule is read as a show
-pub meaning-show : (ms : Members) → word_of ms ≡ Some (codes "show") → follows_rule ms (rule_at Show) ≡ true
-    → meaning (object ms) ≡ Ok (answers.show (truth_in (member_of (codes "managed") ms)))
+pub meaning-show : (ms : Members) → given_word ms ≡ Some (codes "show") → follows_rule (rule_at Show) (object ms) ≡ true
+    → meaning (object ms) ≡ Ok (show (truth_in (member_of (codes "managed") ms)))
 meaning-show ms is follows = meaning-word ms Show true is follows
 
 -- a text that is none of the eight words has no rule
 pub rule_of-other : (t : Text) → same_text t (codes "apply") ≡ false → same_text t (codes "update") ≡ false → same_text t (codes "strip") ≡ false
     → same_text t (codes "undo") ≡ false → same_text t (codes "redo") ≡ false
-    → same_text t (codes "show") ≡ false → same_text t (codes "owners") ≡ false → same_text t (codes "log") ≡ false → rule_of t ≡ None
+    → same_text t (codes "show") ≡ false → same_text t (codes "owners") ≡ false → same_text t (codes "log") ≡ false → rule_among session_rules t ≡ None
 rule_of-other t not_apply not_update not_strip not_undo not_redo not_show not_owners not_log =
     rw (not_apply, not_update, not_strip, not_undo, not_redo, not_show, not_owners, not_log) refl
 
@@ -100,24 +99,24 @@ is_true-or_false : (b : Bool) → (b || false) ≡ true → b ≡ true
 is_true-or_false b either = grind (arith, nat_tests)
 
 -- a member that is known to be a text
-text_there : (rules : List MemberRule) (ms : Members) (n : Text) → are_known_members rules ms ≡ true
-    → ((v : Json) → is_known_member rules n v ≡ (is_text v || false)) → has_member n ms ≡ true
+text_there : (shapes : List MemberShape) (ms : Members) (n : Text) → are_members_of shapes ms ≡ true
+    → ((v : Json) → is_known_member shapes n v ≡ (is_text v || false)) → has_member n ms ≡ true
     → is_some (option_and_then as_text (member_of n ms)) ≡ true
-text_there rules ms n known asked there =
+text_there shapes ms n known asked there =
     elim (member_of n ms) as (λ o. member_of n ms ≡ o → is_some o ≡ true → is_some (option_and_then as_text o) ≡ true) [
       | None ↦ λ _ none. none
-      | Some v ↦ λ is _. is_true-or_false (is_text v) (sym (asked v) ∙ known_member rules ms n v known is)
+      | Some v ↦ λ is _. is_true-or_false (is_text v) (sym (asked v) ∙ known_member shapes ms n v known is)
     ] refl there
 
 -- a member that is known to be a subresource's name tells a part
-part_there : (rules : List MemberRule) (ms : Members) → are_known_members rules ms ≡ true
-    → ((v : Json) → is_known_member rules (codes "subresource") v ≡ (is_subresource v || false))
+part_there : (shapes : List MemberShape) (ms : Members) → are_members_of shapes ms ≡ true
+    → ((v : Json) → is_known_member shapes (codes "subresource") v ≡ (is_subresource v || false))
     → is_some (part_in (member_of (codes "subresource") ms)) ≡ true
-part_there rules ms known asked =
+part_there shapes ms known asked =
     elim (member_of (codes "subresource") ms) as (λ o. member_of (codes "subresource") ms ≡ o → is_some (part_in o) ≡ true) [
       | None ↦ λ _. refl
       | Some v ↦ λ is. ap (λ b. is_some (if b then Some status else None)) (is_true-or_false (is_subresource v) (sym (asked v)
-          ∙ known_member rules ms (codes "subresource") v known is))
+          ∙ known_member shapes ms (codes "subresource") v known is))
     ] refl
 
 -- the part that a member tells is the one in which a command acts
@@ -127,29 +126,31 @@ part-told (Some v) s is =
     elim (is_subresource v) as (λ b. (if b then Some status else None) ≡ Some s → status ≡ s) [ true ↦ λ h. cc | false ↦ λ h. cc ] is
 
 -- an apply command has a moment, a manager and an object
-pub request-from_apply : (ms : Members) → follows_rule ms (rule_at Apply) ≡ true → HasRequest ms
+pub request-from_apply : (ms : Members) → follows_rule (rule_at Apply) (object ms) ≡ true → HasRequest ms
 request-from_apply ms follows =
-    let parts = and_parts (are_known_members (member_rules Apply) ms) _ follows in
-    let at = and_parts (has_member (codes "at") ms) _ parts.1 in
+    let parts = and_parts (are_members_of (shape_at Apply) ms) _ follows in
+    let word = and_parts (has_member (codes "do") ms) _ parts.1 in
+    let at = and_parts (has_member (codes "at") ms) _ word.1 in
     let manager = and_parts (has_member (codes "manager") ms) _ at.1 in
     let object = and_parts (has_member (codes "object") ms) _ manager.1 in (
-      text_there (member_rules Apply) ms (codes "at") parts.0 (λ v. refl) at.0,
-      text_there (member_rules Apply) ms (codes "manager") parts.0 (λ v. refl) manager.0,
+      text_there (shape_at Apply) ms (codes "at") parts.0 (λ v. refl) at.0,
+      text_there (shape_at Apply) ms (codes "manager") parts.0 (λ v. refl) manager.0,
       object.0,
-      part_there (member_rules Apply) ms parts.0 (λ v. refl),
+      part_there (shape_at Apply) ms parts.0 (λ v. refl),
     )
 
 -- an update command has a moment, a manager and an object
-pub request-from_update : (ms : Members) → follows_rule ms (rule_at Update) ≡ true → HasRequest ms
+pub request-from_update : (ms : Members) → follows_rule (rule_at Update) (object ms) ≡ true → HasRequest ms
 request-from_update ms follows =
-    let parts = and_parts (are_known_members (member_rules Update) ms) _ follows in
-    let at = and_parts (has_member (codes "at") ms) _ parts.1 in
+    let parts = and_parts (are_members_of (shape_at Update) ms) _ follows in
+    let word = and_parts (has_member (codes "do") ms) _ parts.1 in
+    let at = and_parts (has_member (codes "at") ms) _ word.1 in
     let manager = and_parts (has_member (codes "manager") ms) _ at.1 in
     let object = and_parts (has_member (codes "object") ms) _ manager.1 in (
-      text_there (member_rules Update) ms (codes "at") parts.0 (λ v. refl) at.0,
-      text_there (member_rules Update) ms (codes "manager") parts.0 (λ v. refl) manager.0,
+      text_there (shape_at Update) ms (codes "at") parts.0 (λ v. refl) at.0,
+      text_there (shape_at Update) ms (codes "manager") parts.0 (λ v. refl) manager.0,
       object.0,
-      part_there (member_rules Update) ms parts.0 (λ v. refl),
+      part_there (shape_at Update) ms parts.0 (λ v. refl),
     )
 
 -- what is there is not missing
@@ -168,13 +169,14 @@ text_in-is (Some (object ms)) t is = cc
 -- ---- the members of an owners command
 
 -- the member is a list of texts
-pub texts_there : (ms : Members) → follows_rule ms (rule_at Owners) ≡ true → is_some (option_and_then list_of_texts (member_of (codes "path") ms)) ≡ true
+pub texts_there : (ms : Members) → follows_rule (rule_at Owners) (object ms) ≡ true → is_some (option_and_then list_of_texts (member_of (codes "path") ms)) ≡ true
 texts_there ms follows =
-    let parts = and_parts (are_known_members (member_rules Owners) ms) _ follows in
-    let path = and_parts (has_member (codes "path") ms) _ parts.1 in
+    let parts = and_parts (are_members_of (shape_at Owners) ms) _ follows in
+    let word = and_parts (has_member (codes "do") ms) _ parts.1 in
+    let path = and_parts (has_member (codes "path") ms) _ word.1 in
     elim (member_of (codes "path") ms) as (λ o. member_of (codes "path") ms ≡ o → is_some o ≡ true → is_some (option_and_then list_of_texts o) ≡ true) [
       | None ↦ λ _ none. none
-      | Some v ↦ λ is _. is_true-or_false (is_some (list_of_texts v)) (known_member (member_rules Owners) ms (codes "path") v parts.0 is)
+      | Some v ↦ λ is _. is_true-or_false (is_some (list_of_texts v)) (known_member (shape_at Owners) ms (codes "path") v parts.0 is)
     ] refl path.0
 
 list-given : (o : Option Json) (vs : Items) → option_and_then as_list o ≡ Some vs → o ≡ Some (list vs)
@@ -190,11 +192,11 @@ list-there (Some (list vs)) some none = cc
 list-there (Some (object ms)) some none = true≢false (sym some)
 
 -- an owners command has a list as its path
-pub path-there : (ms : Members) → follows_rule ms (rule_at Owners) ≡ true → option_and_then as_list (member_of (codes "path") ms) ≡ None → ⊥
+pub path-there : (ms : Members) → follows_rule (rule_at Owners) (object ms) ≡ true → option_and_then as_list (member_of (codes "path") ms) ≡ None → ⊥
 path-there ms follows none = list-there (member_of (codes "path") ms) (texts_there ms follows) none
 
 -- each item of an owners command's path is a text
-pub path-texts : (ms : Members) (vs : Items) → follows_rule ms (rule_at Owners) ≡ true → option_and_then as_list (member_of (codes "path") ms) ≡ Some vs
+pub path-texts : (ms : Members) (vs : Items) → follows_rule (rule_at Owners) (object ms) ≡ true → option_and_then as_list (member_of (codes "path") ms) ≡ Some vs
     → is_some (texts_of vs) ≡ true
 path-texts ms vs follows is = sym (ap (λ o. is_some (option_and_then list_of_texts o)) (list-given (member_of (codes "path") ms) vs is))
     ∙ texts_there ms follows

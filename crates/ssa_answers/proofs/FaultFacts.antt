@@ -12,8 +12,8 @@ use Rattle.ssa_model.specs.definitions.GivenEntries as entries
 use Rattle.ssa_model.specs.definitions.Faults.{body_fault_code}
 use Rattle.ssa_model.specs.definitions.Replies.{clash_json, with_fault, fault_json, entry_fault_json, fault_reply, paths_json}
 use Rattle.ssa_model.specs.definitions.Values.{text_json}
-use Rattle.ssa_path.specs.PartMembers.{part_text}
-use Rattle.ssa_path.specs.PartMembers.{part-closed}
+use Rattle.ssa_merge.specs.KeyMembers.{key_text}
+use Rattle.ssa_merge.proofs.KeyTexts.{key-written}
 use Rattle.ssa_schema.specs.Finds.{told}
 use Rattle.ssa_schema.specs.declared.body_fault.BodyFault.{BodyFault}
 use Rattle.ssa_answers.specs.Faults.{IsFault, bench_code}
@@ -58,15 +58,8 @@ bench_json-told _ g is = ap fault_reply (sym is)
 -- ---- conflicts
 
 -- the text is that of its members, one behind another
-pub clash-written : (c : Clash) (t0 : Text) {t1 t2 t3 t4 t5 t6 t7 t8 : Text}
+pub clash-written : (c : Clash) (t0 : Text) {t1 t2 t3 t4 : Text}
     → t1 ≡ t0 ++ codes "{\"fields\":" → t2 ≡ t1 ++ compact (paths_json c.fields)
-    → t3 ≡ t2 ++ codes ",\"manager\":" → t4 ≡ t3 ++ compact (text_json c.manager.name)
-    → t5 ≡ t4 ++ codes ",\"operation\":" → t6 ≡ t5 ++ compact (text_json (operation_text c.manager.operation))
-    → t7 ≡ t6 ++ part_text c.manager.part → t8 ≡ t7 ++ 125 ∷ [] → t8 ≡ t0 ++ compact (clash_json c)
-clash-written c t0 {t1 = t1} {t2 = t2} {t3 = t3} {t4 = t4} {t5 = t5} {t6 = t6} e0 e1 e2 e3 e4 e5 e6 e7 =
-    let s = c.manager.part in
-    let from_part = joined t6 (part_text s) (125 ∷ []) e6 e7 ∙ ap (λ t. t6 ++ t) (part-closed s) in
-    let from_operation =
-    joined t4 (codes ",\"operation\":") _ e4 (joined t5 (compact (text_json (operation_text c.manager.operation))) _ e5 from_part) in
-    let from_manager = joined t2 (codes ",\"manager\":") _ e2 (joined t3 (compact (text_json c.manager.name)) _ e3 from_operation) in
-    joined t0 (codes "{\"fields\":") _ e0 (joined t1 (compact (paths_json c.fields)) _ e1 from_manager)
+    → t3 ≡ t2 ++ key_text true c.manager → t4 ≡ t3 ++ 125 ∷ [] → t4 ≡ t0 ++ compact (clash_json c)
+clash-written c t0 {t1 = t1} {t2 = t2} e0 e1 e2 e3 =
+    joined t0 (codes "{\"fields\":") _ e0 (joined t1 (compact (paths_json c.fields)) _ e1 (key-written true c.manager t2 no_members e2 e3))

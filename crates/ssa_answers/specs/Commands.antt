@@ -3,12 +3,12 @@ use Rattle.std.specs.Prelude.{◌≡◌, List, [], ◌∷◌, false, true, Optio
 use Rattle.ssa_members.specs.Texts.{text_bytes}
 use Rattle.ssa_model.specs.definitions.Json.{Text, Members, member_of, as_text}
 use Rattle.ssa_model.specs.definitions.Readings.{not_json, null_value, number_outside}
-use Rattle.ssa_model.specs.definitions.Commands.{MemberRule, text_member, truth_member, texts_member, part_member, any_member, needs, may_have, CommandRule}
-use Rattle.ssa_model.specs.definitions.Answers as answers
+use Rattle.ssa_model.specs.definitions.Commands.{CommandRule, session_rules, rule_among, change, undo, redo, show, owners, log}
+use Rattle.ssa_model.specs.definitions.Answers.{BenchCommand}
 use Rattle.ssa_model.specs.definitions.Session as session
 use Rattle.ssa_model.specs.definitions.Session.{unread, bad_moment, command_shape, of_element}
 use Rattle.ssa_model.specs.definitions.ElementTexts.{bad_element, index_element, not_canonical}
-use Rattle.ssa_model.specs.definitions.Values.{text_in, value_in}
+use Rattle.ssa_model.specs.definitions.Values.{MemberShape, must_have, is_text, text_in, value_in}
 use Rattle.ssa_model.specs.definitions.Keys.{subresource_in}
 use Rattle.ssa_json.specs.Moment.{is_moment}
 use Rattle.ssa_json.specs.View.{view}
@@ -23,13 +23,13 @@ use Rattle.ssa_answers.specs.declared.read_command.Request.{Request}
 use Rattle.ssa_answers.specs.declared.read_command.LineFault.{LineFault}
 use Rattle.ssa_answers.specs.declared.read_command.LineFault.TheVariants.{NotJson, NullValue, NumberOutside, BadMoment, CommandShape, BadElement, IndexElement, NotCanonical, OutOfMemory}
 
-abbrev pub command_view : Command → answers.Command
-command_view (command.Change c) = changes.command_view c
-command_view command.Undo = answers.undo
-command_view command.Redo = answers.redo
-command_view (command.Show managed) = answers.show managed
-command_view (command.Owners p) = answers.owners p
-command_view command.Log = answers.log
+abbrev pub command_view : Command → BenchCommand
+command_view (command.Change c) = change (changes.command_view c)
+command_view command.Undo = undo
+command_view command.Redo = redo
+command_view (command.Show managed) = show managed
+command_view (command.Owners p) = owners p
+command_view command.Log = log
 
 abbrev pub word_text : Word → Text
 word_text Apply = codes "apply"
@@ -41,24 +41,20 @@ word_text Show = codes "show"
 word_text Owners = codes "owners"
 word_text Log = codes "log"
 
--- the members beside `do`
-abbrev pub member_rules : Word → List MemberRule
-member_rules Apply = needs (codes "at") text_member ∷ needs (codes "manager") text_member ∷ needs (codes "object") any_member
-    ∷ may_have (codes "force") truth_member ∷ may_have (codes "subresource") part_member ∷ []
-member_rules Update = needs (codes "at") text_member ∷ needs (codes "manager") text_member ∷ needs (codes "object") any_member
-    ∷ may_have (codes "subresource") part_member ∷ []
-member_rules Strip = []
-member_rules Undo = []
-member_rules Redo = []
-member_rules Show = may_have (codes "managed") truth_member ∷ []
-member_rules Owners = needs (codes "path") texts_member ∷ []
-member_rules Log = []
-
+-- the rule of the word in the definitions' table
 abbrev pub rule_at : Word → CommandRule
-rule_at word = record { word = word_text word; members = member_rules word }
+rule_at word = elim (rule_among session_rules (word_text word)) [ Some rule ↦ rule | None ↦ record { word = []; members = [] } ]
+
+-- the members of a command of the word
+abbrev pub shape_at : Word → List MemberShape
+shape_at word = must_have (codes "do") is_text ∷ (rule_at word).members
+
+-- the word that members give
+abbrev pub given_word : Members → Option Text
+given_word ms = option_and_then as_text (member_of (codes "do") ms)
 
 -- The command that was read, or the fault; where memory ran out, nothing is said.
-abbrev pub ReadsCommand : Result Command LineFault → Result answers.Command session.LineFault → Type 0
+abbrev pub ReadsCommand : Result Command LineFault → Result BenchCommand session.LineFault → Type 0
 ReadsCommand (Ok c) r = r ≡ Ok (command_view c)
 ReadsCommand (Err NotJson) r = r ≡ Err (unread not_json)
 ReadsCommand (Err NullValue) r = r ≡ Err (unread null_value)

@@ -1,6 +1,6 @@
 //! What a subcommand asks of a bench, and the command that this is.
 ghost use Rattle.std.specs.Prelude.{◌≡◌};
-ghost use Rattle.ssa_model.specs.definitions.Subcommands as model;
+ghost use Rattle.ssa_model.specs.definitions.Commands.{apply, change, owners, update};
 ghost use Rattle.ssa_model.specs.definitions.Subcommands.{asked_command, asked_value};
 ghost use Rattle.ssa_json.specs.FaultCodes.{code_view};
 ghost use Rattle.ssa_json.specs.Readings.{readings};
@@ -151,7 +151,7 @@ fn apply_command(
     at: &str,
     object: &[u8],
 ) -> Result<Command, AskedFault>
-    ensures { IsAskedCommand result (asked_command readings (model.apply (actor manager.now (part_view part)) force at.now object.now)) }
+    ensures { IsAskedCommand result (asked_command readings (change (apply (actor manager.now (part_view part) at.now) force object.now))) }
 {
     let object = value_of(alloc, object)?;
     let at = moment_of(at)?;
@@ -172,7 +172,7 @@ fn update_command(
     at: &str,
     object: &[u8],
 ) -> Result<Command, AskedFault>
-    ensures { IsAskedCommand result (asked_command readings (model.update (actor manager.now (part_view part)) at.now object.now)) }
+    ensures { IsAskedCommand result (asked_command readings (change (update (actor manager.now (part_view part) at.now) object.now))) }
 {
     let object = value_of(alloc, object)?;
     let at = moment_of(at)?;
@@ -186,7 +186,7 @@ fn update_command(
 }
 
 fn owners_command(alloc: Global, path: &str) -> Result<Command, AskedFault>
-    ensures { IsAskedCommand result (asked_command readings (model.owners path.now)) }
+    ensures { IsAskedCommand result (asked_command readings (owners path.now)) }
 {
     match value_of(alloc, path.as_bytes())? {
         Json::List(items) => owners_of_items(alloc, &items),

@@ -13,10 +13,9 @@ use crate::fault::Fault;
 use ssa_json::fault_code::FaultCode;
 use ssa_json::write::push_comma;
 use ssa_lines::fault_line::{push_code, push_code_at, push_members};
-use ssa_lines::json_text::{FIRST_ROOM, push_string};
+use ssa_lines::json_text::FIRST_ROOM;
 use ssa_merge::manager::ManagerKey;
 use ssa_path::field_set::FieldSet;
-use ssa_path::part_members::push_part;
 use ssa_path::path_text::push_paths;
 use ssa_schema::body_fault::BodyFault;
 use std::alloc::{AllocError, Global};
@@ -32,11 +31,7 @@ fn push_clash(
 {
     text.extend_from_slice(b"{\"fields\":")?;
     push_paths(alloc, text, fields)?;
-    text.extend_from_slice(b",\"manager\":")?;
-    push_string(text, manager.name.as_str())?;
-    text.extend_from_slice(b",\"operation\":")?;
-    push_string(text, manager.operation.text())?;
-    push_part(text, manager.part)?;
+    manager.push_members(text, true)?;
     text.push(b'}')?;
     Ok(())
 }

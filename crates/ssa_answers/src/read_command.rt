@@ -4,11 +4,11 @@ ghost use Rattle.ssa_members.specs.Texts.{text_bytes};
 ghost use Rattle.ssa_json.specs.View.{view, members_view};
 ghost use Rattle.ssa_model.specs.definitions.Json.{object, as_text, member_of};
 ghost use Rattle.ssa_model.specs.definitions.Session.{read_command, read_line};
-ghost use Rattle.ssa_model.specs.definitions.Commands.{word_of, follows_rule};
+ghost use Rattle.ssa_model.specs.definitions.Commands.{follows_rule};
 ghost use Rattle.ssa_model.specs.definitions.Values.{truth_in};
 ghost use Rattle.ssa_json.specs.FaultCodes.{code_view};
 ghost use Rattle.ssa_json.specs.Readings.{readings};
-ghost use Rattle.ssa_answers.specs.Commands.{word_text, rule_at, HasRequest, ReadsCommand, Requests};
+ghost use Rattle.ssa_answers.specs.Commands.{given_word, word_text, rule_at, HasRequest, ReadsCommand, Requests};
 ghost use Rattle.ssa_answers.specs.Replies.{line_code};
 ghost use Rattle.ssa_answers.specs.declared.read_command.LineFault.TheVariants.{OutOfMemory};
 
@@ -181,8 +181,8 @@ fn take_request(members: &mut Members<Json>) -> Option<Request>
 
 // The apply command of members that follow its rule.
 fn apply_command(alloc: Global, mut members: Members<Json>) -> Result<Command, LineFault>
-    requires word { word_of (members_view members.entries) ≡ Some (word_text Word.Apply) }
-    requires shape { IsTrue (follows_rule (members_view members.entries) (rule_at Word.Apply)) }
+    requires word { given_word (members_view members.entries) ≡ Some (word_text Word.Apply) }
+    requires shape { IsTrue (follows_rule (rule_at Word.Apply) (object (members_view members.entries))) }
     ensures { ReadsCommand result (read_command readings (object (members_view members.entries))) }
 {
     let force = truth_of(&members, "force");
@@ -207,8 +207,8 @@ fn apply_command(alloc: Global, mut members: Members<Json>) -> Result<Command, L
 
 // The update command of members that follow its rule.
 fn update_command(alloc: Global, mut members: Members<Json>) -> Result<Command, LineFault>
-    requires word { word_of (members_view members.entries) ≡ Some (word_text Word.Update) }
-    requires shape { IsTrue (follows_rule (members_view members.entries) (rule_at Word.Update)) }
+    requires word { given_word (members_view members.entries) ≡ Some (word_text Word.Update) }
+    requires shape { IsTrue (follows_rule (rule_at Word.Update) (object (members_view members.entries))) }
     ensures { ReadsCommand result (read_command readings (object (members_view members.entries))) }
 {
     let Some(request) = take_request(&mut members) else {
@@ -231,8 +231,8 @@ fn update_command(alloc: Global, mut members: Members<Json>) -> Result<Command, 
 
 // The owners command of members that follow its rule.
 fn owners_command(alloc: Global, members: &Members<Json>) -> Result<Command, LineFault>
-    requires word { word_of (members_view members.now.entries) ≡ Some (word_text Word.Owners) }
-    requires shape { IsTrue (follows_rule (members_view members.now.entries) (rule_at Word.Owners)) }
+    requires word { given_word (members_view members.now.entries) ≡ Some (word_text Word.Owners) }
+    requires shape { IsTrue (follows_rule (rule_at Word.Owners) (object (members_view members.now.entries))) }
     ensures { ReadsCommand result (read_command readings (object (members_view members.now.entries))) }
 {
     let Some(texts) = list_of(members, "path") else {

@@ -1,13 +1,13 @@
 -- The answer to a command, from the change that was planned and its record.
 use Rattle.std.proofs.Common.{◌≡◌, List, [], ◌∷◌, take, Bool, true, false, not, length, refl, sym, ap, subst, ◌∙◌}
 use Rattle.std.specs.Prelude.{Result, Ok, Err, if◌then◌else◌}
-use Rattle.ssa_model.specs.definitions.Json.{Text, Json}
+use Rattle.ssa_model.specs.definitions.Json.{Text}
 use Rattle.ssa_model.specs.definitions.Body.{Body}
-use Rattle.ssa_model.specs.definitions.Parts.{Actor}
+use Rattle.ssa_model.specs.definitions.Commands.{map_ok, word_of}
 use Rattle.ssa_model.specs.definitions.Operations.{State, Refusal, clashes}
-use Rattle.ssa_model.specs.definitions.History.{Bench, Step, Timeline, advanced, is_manager_name, last_state, present}
+use Rattle.ssa_model.specs.definitions.History.{Bench, Step, Timeline, advanced, last_state, present}
 use Rattle.ssa_model.specs.definitions.Answers as model
-use Rattle.ssa_model.specs.definitions.Answers.{Answer, fault, refused, manager_name, no_subresource, has_part, comparison, accept, accept_or_refuse, command_body, with_body}
+use Rattle.ssa_model.specs.definitions.Answers.{Answer, fault, refused, comparison, Deed, label_of, accept, accept_or_refuse}
 use Rattle.ssa_model.specs.definitions.RecordReading.{HasReadPaths}
 use Rattle.ssa_model.specs.definitions.RecordedBench.{HasReadHistory, HasReadStep}
 use Rattle.ssa_model.specs.definitions.Valid.{IsValidState, KeepsOrder, is_named}
@@ -21,7 +21,7 @@ use Rattle.ssa_merge.specs.TableChanges.{changed_table, LeadsTo}
 use Rattle.ssa_merge.specs.declared.change.Change.{Change}
 use Rattle.ssa_merge.specs.declared.plan.Refusal as plan
 use Rattle.ssa_merge.specs.declared.plan.Refusal.TheVariants as plans
-use Rattle.ssa_bench.specs.Benches.{IsAccepted, IsPrepared, changed_view, changed_by, led_to, tested_body}
+use Rattle.ssa_bench.specs.Benches.{IsAccepted, IsPrepared, changed_view, changed_by, led_to, deed_answer}
 use Rattle.ssa_answers.specs.Faults.{IsFault, IsGiven}
 use Rattle.ssa_turn.specs.Histories.{label_view}
 use Rattle.ssa_turn.specs.TablesBack.{AllTablesBack, HasTableBack, MakesTableBack}
@@ -68,22 +68,9 @@ module _ (bench : Bench) (word : Text) where
   told-first faults.TooManyManagers r a go h = told faults.TooManyManagers h.0 a (go h.0 h.1) h.2
   told-first faults.OutOfMemory r a go h = tt
 
-module _ (bench : Bench) (who : Actor) (v : Json) (go : Body → Answer) where
-  abbrev answered : Result Body model.Fault → Answer
-  answered r = elim r [ Ok body ↦ go body | Err f ↦ (fault f, bench) ]
-
-  in_order : (named parted : Bool) (r : Result Body model.Fault)
-      → (if not named then (fault manager_name, bench) else (if not parted then (fault no_subresource, bench) else answered r))
-      ≡ answered (if not named then Err manager_name else (if not parted then Err no_subresource else r))
-  in_order false parted r = refl
-  in_order true false r = refl
-  in_order true true r = refl
-
-  -- the tests come first
-  pub with_body-tested : (r : Result Body model.Fault) → tested_body bench who v ≡ r → with_body bench who v go ≡ answered r
-  with_body-tested r e =
-      in_order (is_manager_name who.name) (has_part bench.schema.kind who.part) (command_body bench v)
-      ∙ ap answered e
+-- the answer to a command whose object's body is this, or has this fault
+abbrev pub answered : Bench → (Body → Deed) → Result Body model.Fault → Answer
+answered bench deed r = elim (map_ok deed r) [ Ok d ↦ deed_answer bench d | Err f ↦ (fault f, bench) ]
 
 -- ---- what was prepared
 
@@ -137,12 +124,12 @@ pub leads-itself : {before : State} {change : Change} {after : State} → IsChan
     → LeadsTo before.table change.table (changed_table change.table before.table)
 leads-itself {before = before} {change = change} is = subst (LeadsTo before.table change.table) (sym is.table_leads.leads) is.table_leads
 
-module _ (bench : Bench) (word : Text) (label : Label) where
+module _ (bench : Bench) (d : Deed) (label : Label) (labelled : label_view label ≡ label_of d) where
   -- a change that is kept to, under a label with a manager's name, is the answer
   pub planned : (change : Change) (p : Prepared) (after : State) → is_named (label_view label) ≡ true → IsRecorded (present bench.timeline) label change p
       → IsChange (present bench.timeline) change after
       → IsValidState bench.schema.kind (present bench.timeline) → IsKept bench.schema.kind (present bench.timeline) change
-      → IsAccepted bench p (accept bench word (label_view label) after) word
+      → IsAccepted bench p (accept bench d after) (word_of d)
   planned change p after named made is now kept =
       let before = present bench.timeline in
       let kind = bench.schema.kind in
@@ -158,8 +145,8 @@ module _ (bench : Bench) (word : Text) (label : Label) where
         managers = length (sym is.table_leads.leads i);
       } in
       record {
-        reply = ap (model.changed word) (compared ∙ sym made.changed_is);
-        next = λ i. advanced bench (label_view (sym made.label_is i)) (sym (led ∙ same) i);
+        reply = ap (model.changed (word_of d)) (compared ∙ sym made.changed_is);
+        next = ap (λ l. advanced bench l after) (sym labelled) ∙ (λ i. advanced bench (label_view (sym made.label_is i)) (sym (led ∙ same) i));
         valid = subst (IsValidState kind) (sym led) kept.valid;
         step = record {
           order = subst (λ (s : State). KeepsOrder before.table s.table) (sym led) kept.order;
@@ -174,20 +161,20 @@ module _ (bench : Bench) (word : Text) (label : Label) where
   pub accepted : (change : Change) (p : Prepared) (given : Result State Refusal) → is_named (label_view label) ≡ true → IsRecorded (present bench.timeline) label change p
       → IsChanged (present bench.timeline) (Ok change) given
       → IsValidState bench.schema.kind (present bench.timeline) → IsKept bench.schema.kind (present bench.timeline) change
-      → IsAccepted bench p (accept_or_refuse bench word (label_view label) given) word
+      → IsAccepted bench p (accept_or_refuse bench d given) (word_of d)
   accepted change p given named made is now kept =
-      let tells : Answer → Type 0 = λ a. IsAccepted bench p a word in
-      subst tells (ap (accept_or_refuse bench word (label_view label)) (sym is.1)) (planned change p is.0 named made is.2 now kept)
+      let tells : Answer → Type 0 = λ a. IsAccepted bench p a (word_of d) in
+      subst tells (ap (accept_or_refuse bench d) (sym is.1)) (planned change p is.0 named made is.2 now kept)
 
   -- a refusal that is told is the answer
   pub refused-planned : (r : plan.Refusal) (given : Result State Refusal) → IsChanged (present bench.timeline) (Err r) given
-      → IsPrepared bench (Err (refusal_fault r)) (accept_or_refuse bench word (label_view label) given) word
-  refused-planned (plans.Conflict clashes) given h = told bench word (faults.Conflict clashes) (refused h.0) _
-      (ap (accept_or_refuse bench word (label_view label)) h.1) (ap refused h.2)
-  refused-planned plans.TooManyPaths given h = told bench word faults.TooManyPaths (refused h.0) _ (ap (accept_or_refuse bench word (label_view label)) h.1)
+      → IsPrepared bench (Err (refusal_fault r)) (accept_or_refuse bench d given) (word_of d)
+  refused-planned (plans.Conflict clashes) given h = told bench (word_of d) (faults.Conflict clashes) (refused h.0) _
+      (ap (accept_or_refuse bench d) h.1) (ap refused h.2)
+  refused-planned plans.TooManyPaths given h = told bench (word_of d) faults.TooManyPaths (refused h.0) _ (ap (accept_or_refuse bench d) h.1)
       (ap refused h.2)
-  refused-planned plans.TooManyManagers given h = told bench word faults.TooManyManagers (refused h.0) _
-      (ap (accept_or_refuse bench word (label_view label)) h.1) (ap refused h.2)
+  refused-planned plans.TooManyManagers given h = told bench (word_of d) faults.TooManyManagers (refused h.0) _
+      (ap (accept_or_refuse bench d) h.1) (ap refused h.2)
   refused-planned plans.OutOfMemory given h = tt
 
 -- ---- the state that was planned on

@@ -16,7 +16,7 @@ use Rattle.ssa_model.specs.definitions.Operations.{State}
 use Rattle.ssa_model.specs.definitions.Replies.{label_json}
 use Rattle.ssa_model.specs.definitions.Schema as schemas
 use Rattle.ssa_model.specs.definitions.Schema.{Schema}
-use Rattle.ssa_model.specs.definitions.History.{Bench, Label, applied, updated, stripped, Step, Timeline, appended, forgotten, last_state, past_len, present, preceded}
+use Rattle.ssa_model.specs.definitions.History.{Bench, Label, Step, Timeline, appended, forgotten, last_state, past_len, present, preceded}
 use Rattle.ssa_model.specs.definitions.BenchFile.{IsLabel, IsReadBack, IsStep, IsValidBench}
 use Rattle.ssa_model.specs.definitions.Record.{record_of}
 use Rattle.ssa_model.specs.definitions.RecordReading.{is_record_shape, HasReadPaths, IsReadState}
@@ -27,6 +27,7 @@ use Rattle.ssa_model.specs.definitions.ToldParts.{has_subresource, tells_subreso
 use Rattle.ssa_model.specs.definitions.Valid.{AllEntries, IsNextStep, IsValidHistory, IsValidState, KeepsOrder, MakesNamed, MakesValid, is_named}
 use Rattle.ssa_model.specs.definitions.BenchOfStates.{given_if, is_label, is_written_as, label_in, said_label, schema_in}
 use Rattle.ssa_model.specs.definitions.BenchFaults.{is_label_shape, is_move_shape, MoveFault, no_move_text, record_does_not_fit, told_value, value_move}
+use Rattle.ssa_model.specs.definitions.Commands.{apply, update, strip}
 use Rattle.ssa_model.specs.laws.RecordedMoves.{IsReadBackState, LineIsMove, LineOfParts, MisfitIsTold, ShapelessIsNoMove, TellsLines}
 use Rattle.ssa_model.proofs.Given.{given-back}
 use Rattle.ssa_model.proofs.RecordsBack.{record_texts_have_shape}
@@ -107,9 +108,9 @@ pub lines-told : (bench : Bench) → IsValidBench readings bench → TellsLines 
 lines-told bench valid = record { accepted = valid.accepted; named = valid.named }
 
 label-named : (l : Label) → IsLabel readings l → is_named l ≡ true
-label-named (applied who force at) h = h.0
-label-named (updated who at) h = h.0
-label-named stripped h = refl
+label-named (apply who force o) h = h.0
+label-named (update who o) h = h.0
+label-named strip h = refl
 
 moments-read : (t : Table) → AllEntries (IsReadBack readings) t → AllEntries (λ e. readings.moment e.moment ≡ true) t
 moments-read [] h = tt

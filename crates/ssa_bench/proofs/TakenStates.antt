@@ -8,11 +8,12 @@ use Rattle.ssa_model.specs.definitions.Answers.{file_state}
 use Rattle.ssa_model.specs.definitions.BenchText.{states, step_json}
 use Rattle.ssa_model.specs.definitions.Formats.{can_tell_label, can_tell_state}
 use Rattle.ssa_model.specs.definitions.Values.{value_in}
-use Rattle.ssa_model.specs.definitions.History.{Bench, Label, applied, updated, stripped, Step, is_manager_name}
+use Rattle.ssa_model.specs.definitions.History.{Bench, Label, Step, is_manager_name}
 use Rattle.ssa_model.specs.definitions.Json.{Json, member_at}
 use Rattle.ssa_model.specs.definitions.Operations.{State}
 use Rattle.ssa_model.specs.definitions.Valid.{KeepsOrder, is_named}
 use Rattle.ssa_model.specs.definitions.BenchOfStates.{given_if, is_label, is_written_as, keeps_order, label_in, object_in, said_label, step_in, step_with}
+use Rattle.ssa_model.specs.definitions.Commands.{apply, update, strip}
 use Rattle.ssa_model.proofs.Given.{given-back, and_then-back}
 use Rattle.ssa_model.proofs.TakenOfWritten.{keeps_order-by}
 use Rattle.ssa_json.specs.Readings.{readings}
@@ -20,9 +21,9 @@ use Rattle.ssa_json.specs.Readings.{readings}
 -- ---- the label
 
 label-named : (l : Label) → is_label readings l ≡ true → is_named l ≡ true
-label-named (applied who force at) h = (and_parts (is_manager_name who.name) (readings.moment at) h).0
-label-named (updated who at) h = (and_parts (is_manager_name who.name) (readings.moment at) h).0
-label-named stripped h = refl
+label-named (apply who force o) h = (and_parts (is_manager_name who.name) (readings.moment who.moment) h).0
+label-named (update who o) h = (and_parts (is_manager_name who.name) (readings.moment who.moment) h).0
+label-named strip h = refl
 
 said-named : (v : Json) (l : Label) → label_in readings v ≡ Some l → is_named l ≡ true
 said-named v l h =

@@ -2,17 +2,18 @@
 use Rattle.std.proofs.Common.{◌≡◌, List, [], ◌∷◌, true}
 use Rattle.std.specs.List.{All}
 use Rattle.std.proofs.lemmas.List.Elements.{All-head, All-tail, All-nil, All-cons}
-use Rattle.ssa_model.specs.definitions.History.{Label, applied, updated, stripped, Step}
+use Rattle.ssa_model.specs.definitions.History.{Label, Step}
 use Rattle.ssa_model.specs.definitions.Valid.{is_named, MakesNamed}
 use Rattle.ssa_model.specs.definitions.BenchFile.{IsLabel, IsStep}
+use Rattle.ssa_model.specs.definitions.Commands.{apply, update, strip}
 use Rattle.ssa_json.specs.Readings.{readings}
 use Rattle.ssa_turn.specs.Dated.{is_dated, MakesDated}
 use Rattle.ssa_turn.specs.TablesBack.{MakesTableBack}
 
 is-label : (l : Label) → is_named l ≡ true → is_dated l ≡ true → IsLabel readings l
-is-label (applied who force at) named dated = (named, dated)
-is-label (updated who at) named dated = (named, dated)
-is-label stripped named dated = tt
+is-label (apply who force o) named dated = (named, dated)
+is-label (update who o) named dated = (named, dated)
+is-label strip named dated = tt
 
 -- steps with named and dated labels whose tables are read back
 pub all-steps : (ss : List Step) → All MakesNamed ss → All MakesDated ss → All MakesTableBack ss → All (IsStep readings) ss

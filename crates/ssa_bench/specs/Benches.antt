@@ -1,21 +1,18 @@
 -- What commands on a bench answer, and how the bench goes on.
-use Rattle.std.specs.Prelude.{◌≡◌, [], ◌∷◌, Option, None, Some, Result, Ok, Err, if◌then◌else◌, not, length, codes}
+use Rattle.std.specs.Prelude.{◌≡◌, [], ◌∷◌, Option, None, Some, Result, Ok, Err, length, codes}
 use Rattle.ssa_model.specs.definitions.Objects.{value_at}
 use Rattle.ssa_model.specs.definitions.Values.{text_in}
 use Rattle.ssa_model.specs.definitions.Json.{Text, Json}
 use Rattle.ssa_model.specs.definitions.Body.{Body}
-use Rattle.ssa_model.specs.definitions.Parts.{Actor}
 use Rattle.ssa_model.specs.definitions.Table.{Table}
 use Rattle.ssa_model.specs.definitions.GivenEntries.{EntryFault, table_of}
 use Rattle.ssa_model.specs.definitions.History as model
-use Rattle.ssa_model.specs.definitions.History.{advanced, is_manager_name, present}
+use Rattle.ssa_model.specs.definitions.History.{advanced, present}
 use Rattle.ssa_model.specs.definitions.Carry.{carry}
 use Rattle.ssa_model.specs.definitions.Operations as operations
-use Rattle.ssa_model.specs.definitions.Operations.{update}
 use Rattle.ssa_model.specs.definitions.Answers as answers
 use Rattle.ssa_model.specs.definitions.Answers.{Answer}
 use Rattle.ssa_model.specs.definitions.Valid.{IsNextStep, IsValidState}
-use Rattle.ssa_model.specs.definitions.Keys.{key_of, updates}
 use Rattle.ssa_json.specs.Readings.{readings}
 use Rattle.ssa_merge.specs.States.{state_view}
 use Rattle.ssa_merge.specs.TableChanges.{changed_table}
@@ -80,16 +77,9 @@ changed_by before c =
       managers = length (changed_table c.table before.table);
     }
 
--- the body of an Apply's or an Update's object, or the command's first fault
-abbrev pub tested_body : model.Bench → Actor → Json → Result Body answers.Fault
-tested_body bench who v =
-    if not (is_manager_name who.name) then Err answers.manager_name
-    else (if not (answers.has_part bench.schema.kind who.part) then Err answers.no_subresource else answers.command_body bench v)
-
--- the answer to an Update to a body
-abbrev pub update_answer : model.Bench → Actor → Text → Body → Answer
-update_answer bench who at body =
-    answers.accept_or_refuse bench (codes "update") (model.updated who at) (update (present bench.timeline) (key_of updates who) body at)
+-- the answer to a command whose object has this body
+abbrev pub deed_answer : model.Bench → answers.Deed → Answer
+deed_answer bench d = answers.accept_or_refuse bench d (answers.carried_out (present bench.timeline) d)
 
 -- the command is refused for the fault, and the bench stays
 pub record IsRefused (bench : model.Bench) (f : Fault) (given : Answer) : Type 0 where
@@ -110,7 +100,7 @@ pub record IsAccepted (bench : model.Bench) (p : Prepared) (given : Answer) (wor
 
 -- the answer to a command on this bench, as it is now, tells what is prepared
 abbrev pub IsPreparedOn : model.Bench → Prepared → Type 0
-IsPreparedOn bench p = (c : answers.Command) × (word : Text) × IsAccepted bench p (answers.answer bench c) word
+IsPreparedOn bench p = (c : answers.BenchCommand) × (word : Text) × IsAccepted bench p (answers.answer bench c) word
 
 -- What is prepared is the given answer; of want of memory nothing is said.
 abbrev pub IsPrepared : model.Bench → Result Prepared Fault → Answer → Text → Type 0

@@ -1,7 +1,7 @@
 //! The bench: an object, its managers, and the history of commands on it.
-ghost use Rattle.std.specs.Prelude.{◌≡◌, Ok, ◌≤◌, ◌<◌, ◌-◌, ◌^◌, ◌||◌, length, IfErr, IfOk, OnOk, OnErr, true, option_map, codes, string_bytes};
+ghost use Rattle.std.specs.Prelude.{◌≡◌, [], Ok, ◌≤◌, ◌<◌, ◌-◌, ◌^◌, ◌||◌, length, IfErr, IfOk, OnOk, OnErr, true, option_map, codes, string_bytes};
 ghost use Rattle.ssa_model.specs.definitions.Limits.{most_bench_bytes};
-ghost use Rattle.ssa_model.specs.definitions.Answers.{answer, apply, update, strip, undo, redo, log, logged, apply_answer, bench_of, bench_with, body_or_fault, command_body, owners_of, file_state, lone_bench};
+ghost use Rattle.ssa_model.specs.definitions.Answers.{answer, logged, actor_body, bench_of, bench_with, body_or_fault, command_body, owners_of, file_state, lone_bench};
 ghost use Rattle.ssa_model.specs.definitions.Entries.{object_of_state};
 ghost use Rattle.ssa_model.specs.definitions.History.{is_manager_name, past_len, future_len, present};
 ghost use Rattle.ssa_model.specs.definitions.PathMap.{size};
@@ -9,12 +9,13 @@ ghost use Rattle.ssa_model.specs.definitions.BenchText.{depths};
 ghost use Rattle.ssa_model.specs.definitions.Formats.{IsFile};
 ghost use Rattle.ssa_model.specs.definitions.RecordedBench.{recorded_text, recorded_values};
 ghost use Rattle.ssa_model.specs.definitions.Valid.{IsTable, IsValidState, IsValidBody};
+ghost use Rattle.ssa_model.specs.definitions.Commands.{apply, change, update, strip, undo, redo, log};
 ghost use Rattle.ssa_json.specs.Readings.{readings};
 ghost use Rattle.ssa_json.specs.View.{view};
 ghost use Rattle.ssa_merge.specs.Managers.{lent_keys};
 ghost use Rattle.ssa_path.specs.Subresources.{part_view};
 ghost use Rattle.ssa_merge.specs.States.{actor, state_view};
-ghost use Rattle.ssa_bench.specs.Benches.{next_bench, table_or_fault, IsPreparedOn, IsExecuted, IsGivenState, IsMade, IsMoved, IsPrepared, table_of_entries, tested_body, update_answer, version_in};
+ghost use Rattle.ssa_bench.specs.Benches.{next_bench, table_or_fault, IsPreparedOn, IsExecuted, IsGivenState, IsMade, IsMoved, IsPrepared, deed_answer, table_of_entries, version_in};
 ghost use Rattle.ssa_answers.specs.Faults.{IsGiven};
 ghost use Rattle.ssa_answers.specs.Changes.{command_view, command_word};
 ghost use Rattle.ssa_turn.specs.Histories.{lent_labels};
@@ -234,7 +235,7 @@ impl Bench {
 
     // The body of an Apply's or an Update's object, or the first fault of the command.
     fn tested_body(&self, alloc: Global, who: &str, part: Part, object: Json) -> Result<Body, Fault>
-        ensures given { IsGiven result (tested_body self.now (actor who.now (part_view part)) (view object)) }
+        ensures given { IsGiven result (actor_body self.now (actor who.now (part_view part) []) (view object)) }
         ensures valid { IfOk result (λ b. IsValidBody self.now.schema.kind b) }
         ensures named { IfOk result (λ b. is_manager_name who.now ≡ true) }
     {
@@ -259,7 +260,7 @@ impl Bench {
     ) -> Result<Prepared, Fault>
         requires valid { IsValidBody self.now.schema.kind config }
         requires named { is_manager_name (string_bytes who) ≡ true }
-        ensures { IsPrepared self.now result (apply_answer self.now (actor (string_bytes who) (part_view part)) force at config) (codes "apply") }
+        ensures { IsPrepared self.now result (deed_answer self.now (apply (actor (string_bytes who) (part_view part) at) force config)) (codes "apply") }
     {
         let now = self.timeline.present();
         self.timeline.own_entries_are_read();
@@ -290,7 +291,7 @@ impl Bench {
         at: Moment,
         object: Json,
     ) -> Result<Prepared, Fault>
-        ensures { IsPrepared self.now result (answer self.now (apply (actor (string_bytes who) (part_view part)) force at (view object))) (codes "apply") }
+        ensures { IsPrepared self.now result (answer self.now (change (apply (actor (string_bytes who) (part_view part) at) force (view object)))) (codes "apply") }
     {
         match self.tested_body(alloc, who.as_str(), part, object) {
             Ok(config) => self.prepare_configuration(alloc, who, part, force, at, config),
@@ -309,7 +310,7 @@ impl Bench {
     ) -> Result<Prepared, Fault>
         requires valid { IsValidBody self.now.schema.kind body }
         requires named { is_manager_name (string_bytes who) ≡ true }
-        ensures { IsPrepared self.now result (update_answer self.now (actor (string_bytes who) (part_view part)) at body) (codes "update") }
+        ensures { IsPrepared self.now result (deed_answer self.now (update (actor (string_bytes who) (part_view part) at) body)) (codes "update") }
     {
         let now = self.timeline.present();
         self.timeline.own_entries_are_read();
@@ -332,7 +333,7 @@ impl Bench {
         at: Moment,
         object: Json,
     ) -> Result<Prepared, Fault>
-        ensures { IsPrepared self.now result (answer self.now (update (actor (string_bytes who) (part_view part)) at (view object))) (codes "update") }
+        ensures { IsPrepared self.now result (answer self.now (change (update (actor (string_bytes who) (part_view part) at) (view object)))) (codes "update") }
     {
         match self.tested_body(alloc, who.as_str(), part, object) {
             Ok(body) => self.prepare_replacement(alloc, who, part, at, body),
@@ -342,7 +343,7 @@ impl Bench {
 
     // A Strip.
     fn prepare_strip(&self, alloc: Global) -> Result<Prepared, Fault>
-        ensures { IsPrepared self.now result (answer self.now strip) (codes "strip") }
+        ensures { IsPrepared self.now result (answer self.now (change strip)) (codes "strip") }
     {
         let now = self.timeline.present();
         self.timeline.own_entries_are_read();
@@ -358,7 +359,7 @@ impl Bench {
     /// `Conflict`, `TooManyPaths`, `TooManyManagers`. A command that changes nothing is a step of the
     /// history like any other.
     pub fn prepare(&self, alloc: Global, command: Command) -> Result<Prepared, Fault>
-        ensures { IsPrepared self.now result (answer self.now (command_view command)) (command_word command) }
+        ensures { IsPrepared self.now result (answer self.now (change (command_view command))) (command_word command) }
     {
         match command {
             Command::Apply {
@@ -396,7 +397,7 @@ impl Bench {
 
     /// Prepares a command and carries it out. The bench stays as it was where the command is refused.
     pub fn execute(&mut self, alloc: Global, command: Command) -> Result<Changed, Fault>
-        ensures { IsExecuted self.old self.new result (answer self.old (command_view command)) (command_word command) }
+        ensures { IsExecuted self.old self.new result (answer self.old (change (command_view command))) (command_word command) }
     {
         match self.prepare(alloc, command) {
             Ok(prepared) => {

@@ -1,22 +1,21 @@
 -- The faults that are told are those of the definitions.
 use Rattle.std.proofs.Common.{◌≡◌, List, [], ◌∷◌, Bool, true, not, sym, ap, ◌∙◌}
 use Rattle.std.specs.Prelude.{Option, Some, None, Result, Ok, Err, if◌then◌else◌}
-use Rattle.ssa_model.specs.definitions.Json.{Text, Json, scalar, list, object, Members, same_text}
+use Rattle.ssa_model.specs.definitions.Json.{Text, Json, same_text}
 use Rattle.ssa_model.specs.definitions.Body.{Body}
 use Rattle.ssa_model.specs.definitions.ElementTexts.{ElementFault}
 use Rattle.ssa_model.specs.definitions.FieldsV1.{fields_faults, said_set}
 use Rattle.ssa_model.specs.definitions.GivenEntries as model
-use Rattle.ssa_model.specs.definitions.GivenEntries.{bad_entry, manager_name, other_version, bad_moment, of_fields, empty_entry, absent_path, duplicate_manager, is_entry, entry_fault, not_ownable, owned_fault, said_entry, value_entry}
+use Rattle.ssa_model.specs.definitions.GivenEntries.{bad_entry, manager_name, other_version, bad_moment, of_fields, empty_entry, absent_path, duplicate_manager, entry_fault, not_ownable, owned_fault, said_entry, value_entry}
 use Rattle.ssa_model.specs.definitions.History.{is_manager_name}
 use Rattle.ssa_model.specs.definitions.PathMap.{PathSet}
 use Rattle.ssa_model.specs.definitions.Table.{Entry, Table}
-use Rattle.ssa_model.specs.definitions.Keys.{operation_of, operation_in, Operation, applies}
 use Rattle.ssa_json.specs.Moment.{is_moment}
 use Rattle.ssa_json.specs.Reading.{json_reading}
 use Rattle.ssa_json.specs.Readings.{readings}
 use Rattle.ssa_json.specs.View.{view}
 use Rattle.ssa_path.specs.Subresources.{part_view}
-use Rattle.ssa_merge.specs.EntryReading.{Says, SaysIn, TellsOwned, members_saying, owning}
+use Rattle.ssa_merge.specs.EntryReading.{Says, TellsOwned, said_key, entry_saying, owning}
 use Rattle.ssa_merge.specs.GivenEntries.{GivesEntries}
 use Rattle.ssa_merge.specs.Managers.{operation_view}
 use Rattle.ssa_merge.specs.declared.entry_fault.EntryFault.{EntryFault}
@@ -47,11 +46,7 @@ module _ (body : Body) (version : Text) (before : Table) where
 
   -- the entry that the members of a value say
   abbrev pub entry_of : Said → Entry
-  entry_of s = record {
-    manager = record { name = s.name.now; operation = operation_view s.operation; part = part_view s.part };
-    owned = said_set json_reading (view s.fields.now);
-    moment = s.time.now;
-  }
+  entry_of s = record { manager = said_key s; owned = said_set json_reading (view s.fields.now); moment = s.time.now }
 
   -- the first fault, in the order of the tests: the name, the version, the moment, the set's elements, what is owned
   abbrev pub fault_in : Bool → Bool → Bool → List ElementFault → Option model.EntryFault → Option model.EntryFault
@@ -70,27 +65,21 @@ module _ (body : Body) (version : Text) (before : Table) where
   abbrev pub result_of : Option model.EntryFault → Entry → Result Entry model.EntryFault
   result_of fault e = elim fault [ Some f ↦ Err f | None ↦ Ok e ]
 
-  as_said : (ms : Members) (s : Said) → Says ms s → entry (object ms) ≡ result_of (fault_of s) (entry_of s)
-  as_said ms s says =
-      let word : operation_in ms ≡ operation_view s.operation = ap (λ o. elim o as (λ _. Operation) [ Some x ↦ x | None ↦ applies ]) (sym says.operation) in
-      let same : said_entry readings ms ≡ entry_of s = λ i. record {
-        manager = record { name = sym says.name i; operation = word i; part = sym says.part i };
+  -- a value whose members stand in their order gives the entry that they say, or its first fault
+  pub in_order : (v : Json) (s : Said) → Says v s → entry v ≡ result_of (fault_of s) (entry_of s)
+  in_order v s says =
+      let same : said_entry readings v ≡ entry_of s = λ i. record {
+        manager = sym says.key i;
         owned = said_set json_reading (sym says.fields i);
         moment = sym says.time i;
       } in
-      ap (λ t. if not t then Err bad_entry else (elim (entry_fault readings body version before ms) [ Some f ↦ Err f | None ↦ Ok (said_entry readings ms) ]))
+      ap (λ t. if not t then Err bad_entry else (elim (entry_fault readings body version before v) [ Some f ↦ Err f | None ↦ Ok (said_entry readings v) ]))
       says.entry
-      ∙ (λ i. result_of (fault_in (is_manager_name (sym says.name i)) (same_text (sym says.version i) version) (is_moment (sym says.time i))
+      ∙ (λ i. result_of (fault_in (is_manager_name (sym says.key i).name) (same_text (sym says.version i) version) (is_moment (sym says.time i))
       (fields_faults json_reading (sym says.fields i)) (owned_fault body before (same i))) (same i))
 
-  -- a value whose members stand in their order gives the entry that they say, or its first fault
-  pub in_order : (v : Json) (s : Said) → SaysIn v s → entry v ≡ result_of (fault_of s) (entry_of s)
-  in_order (object ms) s says = as_said ms s says
-  in_order (scalar x) s says = absurd says
-  in_order (list vs) s says = absurd says
-
   -- an entry that has passed all tests before that of what it owns
-  pub passed : (v : Json) (s : Said) (name : Text) (owned : PathSet) (moment : Text) → SaysIn v s → is_manager_name s.name.now ≡ true
+  pub passed : (v : Json) (s : Said) (name : Text) (owned : PathSet) (moment : Text) → Says v s → is_manager_name s.name.now ≡ true
       → same_text s.version.now version ≡ true → is_moment s.time.now ≡ true
       → fields_faults json_reading (view s.fields.now) ≡ [] → name ≡ s.name.now → owned ≡ said_set json_reading (view s.fields.now) → moment ≡ s.time.now
       → entry v ≡ result_of (owned_fault body before (owning (record { name = name; operation = operation_view s.operation; part = part_view s.part }) owned))
@@ -114,11 +103,10 @@ module _ (body : Body) (version : Text) (before : Table) where
   pub no-fault : (v : Json) (o : Option model.EntryFault) (e : Entry) → entry v ≡ result_of o e → o ≡ None → entry v ≡ Ok e
   no-fault v o e is none = is ∙ ap (λ x. result_of x e) none
 
--- a value is that with the members of an entry that says the same version, paths, name and moment
-pub whole : (v : Json) (s : Said) (version name : Text) (fields : Json) (moment : Text) → SaysIn v s → s.version.now ≡ version → name ≡ s.name.now
+-- a value is the entry that says the same version, paths, name and moment
+pub whole : (v : Json) (s : Said) (version name : Text) (fields : Json) (moment : Text) → Says v s → s.version.now ≡ version → name ≡ s.name.now
     → fields ≡ view s.fields.now → moment ≡ s.time.now
-    → object (members_saying version fields name (operation_view s.operation) (part_view s.part) moment) ≡ v
-whole (object ms) s version name fields moment says v n f t = (λ i. object (members_saying (sym v i) (f i) (n i) (operation_view s.operation) (part_view s.part) (t i)))
-    ∙ ap object (sym says.whole)
-whole (scalar x) s version name fields moment says v n f t = absurd says
-whole (list vs) s version name fields moment says v n f t = absurd says
+    → entry_saying version fields (record { name = name; operation = operation_view s.operation; part = part_view s.part }) moment ≡ v
+whole v s version name fields moment says is_version is_name is_fields is_moment =
+    (λ i. entry_saying (sym is_version i) (is_fields i) (record { name = is_name i; operation = operation_view s.operation; part = part_view s.part }) (is_moment i))
+    ∙ sym says.whole

@@ -6,9 +6,8 @@ use Rattle.ssa_model.specs.definitions.Json.{Json, Members, Text, item, no_membe
 use Rattle.ssa_model.specs.definitions.Objects.{with_member}
 use Rattle.ssa_model.specs.definitions.Parts.{Subresource, main, status}
 use Rattle.ssa_model.specs.definitions.Table.{Entry, Table}
-use Rattle.ssa_model.specs.definitions.Keys.{operation_text}
 use Rattle.ssa_model.specs.definitions.Values.{text_json}
-use Rattle.ssa_path.specs.PartMembers.{with_part}
+use Rattle.ssa_merge.specs.KeyMembers.{key_put}
 use Rattle.ssa_json.specs.View.{items_of}
 
 -- a member is put to the same members with the same value
@@ -21,9 +20,7 @@ entry_put version e =
     object (with_member (codes "apiVersion") (text_json version)
     (with_member (codes "fieldsType") (text_json (codes "FieldsV1"))
     (with_member (codes "fieldsV1") (fields_json e.owned)
-    (with_member (codes "manager") (text_json e.manager.name)
-    (with_member (codes "operation") (text_json (operation_text e.manager.operation))
-    (with_part e.manager.part (with_member (codes "time") (text_json e.moment) no_members)))))))
+    (key_put e.manager (with_member (codes "time") (text_json e.moment) no_members)))))
 
 abbrev with_part_of : Entry → Subresource → Entry
 with_part_of e s = record { manager = record { name = e.manager.name; operation = e.manager.operation; part = s }; owned = e.owned; moment = e.moment }

@@ -1,7 +1,7 @@
 -- The members of an entry are those that it is written with.
 use Rattle.std.proofs.Common.{◌≡◌, List, [], ◌∷◌, map, Bool, true, false, ◌&&◌, ◌||◌, T, String, Global, string_bytes, string_cmp, nat_cmp, Less, refl, sym, ap, subst, ◌∙◌, true≢false}
 use Rattle.std.specs.Prelude.{Option, Some, None, codes, is_some, if◌then◌else◌}
-use Rattle.std.specs.List.{list_all, AllByRecursion}
+use Rattle.std.specs.List.{AllByRecursion}
 use Rattle.std.specs.List.Sorted.{IsStrictlySortedBy}
 use Rattle.std.specs.Map.{keys_of}
 use Rattle.std.specs.Ordering.{is_lt}
@@ -9,72 +9,52 @@ use Rattle.std.specs.Cmp.{first_so, second_so}
 use Rattle.std.specs.Cmp.Lexicographic.{slice_cmp, nat_list_cmp_total}
 use Rattle.std.specs.FinMap.{slice_cmp-IsAntisymmetric, nat_cmp-IsAntisymmetric}
 use Rattle.std.specs.FinMap.Entries.{find, is_sorted, below_all, same_entries}
-use Rattle.ssa_model.specs.definitions.Json.{Text, Json, scalar, text, Members, no_members, member, member_of, same_text}
-use Rattle.ssa_model.specs.definitions.Values.{text_in, value_in, text_json, text_at, has_member, is_text}
-use Rattle.ssa_model.specs.definitions.Keys.{is_subresource, subresource_in, operation_text, operation_of, Operation, applies, updates}
-use Rattle.ssa_model.specs.definitions.GivenEntries.{entry_texts, is_entry_member, are_entry_members, fields_in}
+use Rattle.ssa_model.specs.definitions.Json.{Text, Json, scalar, text, object, Members, no_members, member, member_of, same_text, same_json}
+use Rattle.ssa_model.specs.definitions.Values.{text_in, value_in, text_json, text_at, member_in, has_member, is_text, MemberShape, is_member_of, are_members_of, are_all_there}
+use Rattle.ssa_model.specs.definitions.Keys.{is_subresource, subresource_in, operation_text, operation_of, operation_in, is_operation, Operation, applies, updates, ManagerKey, key_at}
+use Rattle.ssa_model.specs.definitions.GivenEntries.{given_shape}
 use Rattle.ssa_model.specs.definitions.Parts.{Subresource, main, status}
 use Rattle.ssa_json.specs.View.{view, members_view}
 use Rattle.ssa_json.specs.declared.value.Json as json
 use Rattle.ssa_path.specs.PartMembers.{part_in}
 use Rattle.ssa_model.proofs.Tables.{same_text-true}
-use Rattle.ssa_merge.specs.EntryReading.{members_saying}
+use Rattle.ssa_merge.specs.EntryReading.{entry_saying}
 use Rattle.ssa_model.proofs.Basics.{some-same as some-is}
 
 -- ---- what stands at a name
 
-member-tested : (ms : Members) (n : Text) (v : Json) → are_entry_members ms ≡ true → member_of n ms ≡ Some v → is_entry_member n v ≡ true
-member-tested no_members n v are is = cc
-member-tested (member m w ms) n v are is =
-    elim (same_text n m) as (λ t. same_text n m ≡ t → ◌≡◌ {A = Option Json} (if t then Some w else member_of n ms) (Some v) → is_entry_member n v ≡ true) [
-      | true ↦ λ t here. (λ i. is_entry_member (same_text-true n m t i) (sym (some-is w v here) i)) ∙ first_so (is_entry_member m w) (are_entry_members ms) are
-      | false ↦ λ _ later. member-tested ms n v (second_so (is_entry_member m w) (are_entry_members ms) are) later
+member-tested : (shapes : List MemberShape) (ms : Members) (n : Text) (v : Json) → are_members_of shapes ms ≡ true → member_of n ms ≡ Some v
+    → is_member_of shapes n v ≡ true
+member-tested shapes no_members n v are is = cc
+member-tested shapes (member m w ms) n v are is =
+    elim (same_text n m) as (λ t. same_text n m ≡ t → ◌≡◌ {A = Option Json} (if t then Some w else member_of n ms) (Some v) → is_member_of shapes n v ≡ true) [
+      | true ↦ λ t here. (λ i. is_member_of shapes (same_text-true n m t i) (sym (some-is w v here) i)) ∙ first_so (is_member_of shapes m w) (are_members_of shapes ms) are
+      | false ↦ λ _ later. member-tested shapes ms n v (second_so (is_member_of shapes m w) (are_members_of shapes ms) are) later
     ] refl is
 
-other-none : (ms : Members) (q : Text) → are_entry_members ms ≡ true → ((v : Json) → is_entry_member q v ≡ false) → member_of q ms ≡ None
-other-none ms q are other =
+other-none : (shapes : List MemberShape) (ms : Members) (q : Text) → are_members_of shapes ms ≡ true → ((v : Json) → is_member_of shapes q v ≡ false)
+    → member_of q ms ≡ None
+other-none shapes ms q are other =
     elim (member_of q ms) as (λ o. member_of q ms ≡ o → o ≡ None) [
       | None ↦ λ _. refl
-      | Some v ↦ λ is. absurd (true≢false (sym (member-tested ms q v are is) ∙ other v))
+      | Some v ↦ λ is. absurd (true≢false (sym (member-tested shapes ms q v are is) ∙ other v))
     ] refl
+
+-- a test that the last shape of a name asks
+alone : (b : Bool) → (b || false) ≡ true → b ≡ true
+alone true h = refl
+alone false h = h
 
 text-is : (v : Json) → is_text v ≡ true → v ≡ text_json (text_in (Some v))
 text-is (scalar (text t)) h = refl
 text-is _ h = absurd (true≢false (sym h))
 
--- a member that is a text, or a subresource's name under another name, is a text
-only-text : (v : Json) → (is_text v || false) ≡ true → is_text v ≡ true
-only-text v h = elim (is_text v) as (λ b. (b || false) ≡ true → b ≡ true) [ true ↦ λ _. refl | false ↦ λ k. k ] h
-
-subresource-is : (v : Json) → is_subresource v ≡ true → v ≡ text_json (codes "status")
-subresource-is (scalar (text t)) h = ap text_json (same_text-true t (codes "status") h)
-subresource-is _ h = absurd (true≢false (sym h))
-
--- a member that is a text wherever it stands
-text-there : (ms : Members) (n : Text) → are_entry_members ms ≡ true → has_member n ms ≡ true → ((v : Json) → is_entry_member n v ≡ true → is_text v ≡ true)
-    → member_of n ms ≡ Some (text_json (text_at n ms))
-text-there ms n are has tests =
-    elim (member_of n ms) as (λ o. member_of n ms ≡ o → is_some o ≡ true → o ≡ Some (text_json (text_in o))) [
-      | None ↦ λ _ none. absurd (true≢false (sym none))
-      | Some v ↦ λ is _. ap Some (text-is v (tests v (member-tested ms n v are is)))
-    ] refl has
-
-fields-there : (ms : Members) → has_member (codes "fieldsV1") ms ≡ true → member_of (codes "fieldsV1") ms ≡ Some (fields_in ms)
-fields-there ms has =
-    elim (member_of (codes "fieldsV1") ms) as (λ o. is_some o ≡ true
-    → o ≡ Some (value_in o)) [ None ↦ λ none. absurd (true≢false (sym none)) | Some v ↦ λ _. refl ] has
-
--- members of an entry tell a part
-pub part-told : (ms : Members) → are_entry_members ms ≡ true
-    → part_in (member_of (codes "subresource") ms) ≡ Some (subresource_in (member_of (codes "subresource") ms))
-part-told ms are =
-    elim (member_of (codes "subresource") ms) as (λ o. member_of (codes "subresource") ms ≡ o → part_in o ≡ Some (subresource_in o)) [
-      | None ↦ λ _. refl
-      | Some v ↦ λ is. ap (λ t. if t then Some status else None) (member-tested ms (codes "subresource") v are is)
-    ] refl
+type-is : (v : Json) → same_json (text_json (codes "FieldsV1")) v ≡ true → v ≡ text_json (codes "FieldsV1")
+type-is (scalar (text t)) h = ap text_json (sym (same_text-true (codes "FieldsV1") t h))
+type-is _ h = absurd (true≢false (sym h))
 
 -- a text that says an operation is the word of that operation
-pub operation-word : (t : Text) (o : Operation) → operation_of t ≡ Some o → t ≡ operation_text o
+operation-word : (t : Text) (o : Operation) → operation_of t ≡ Some o → t ≡ operation_text o
 operation-word t o is =
     elim (same_text t (codes "Apply")) as (λ a. same_text t (codes "Apply") ≡ a
     → ◌≡◌ {A = Option Operation} (if a then Some applies else (if same_text t (codes "Update") then Some updates else None)) (Some o)
@@ -86,6 +66,59 @@ operation-word t o is =
             | false ↦ λ _ none. cc
           ] refl later
     ] refl is
+
+-- the word of an operation says it
+word-is : (t : Text) → is_some (operation_of t) ≡ true → operation_of t ≡ Some (operation_in (Some (text_json t)))
+word-is t some =
+    elim (operation_of t) as (λ o. is_some o ≡ true → o ≡ Some (elim o as (λ _. Operation) [ Some x ↦ x | None ↦ applies ]))
+    [ Some x ↦ λ _. refl | None ↦ λ none. absurd (true≢false (sym none)) ] some
+
+operation-is : (v : Json) → is_operation v ≡ true → v ≡ text_json (operation_text (operation_in (Some v)))
+operation-is (scalar (text t)) h = ap text_json (operation-word t (operation_in (Some (text_json t))) (word-is t h))
+operation-is _ h = absurd (true≢false (sym h))
+
+subresource-is : (v : Json) → is_subresource v ≡ true → v ≡ text_json (codes "status")
+subresource-is (scalar (text t)) h = ap text_json (same_text-true t (codes "status") h)
+subresource-is _ h = absurd (true≢false (sym h))
+
+-- the value that a member must be
+there : (ms : Members) (n : Text) (is : Option Json → Json) → are_members_of given_shape ms ≡ true → has_member n ms ≡ true
+    → ((v : Json) → is_member_of given_shape n v ≡ true → v ≡ is (Some v)) → member_of n ms ≡ Some (is (member_of n ms))
+there ms n is are has tests =
+    elim (member_of n ms) as (λ o. member_of n ms ≡ o → is_some o ≡ true → o ≡ Some (is o)) [
+      | None ↦ λ _ none. absurd (true≢false (sym none))
+      | Some v ↦ λ here _. ap Some (tests v (member-tested given_shape ms n v are here))
+    ] refl has
+
+-- the members of an entry tell a part
+pub part-told : (ms : Members) → are_members_of given_shape ms ≡ true
+    → part_in (member_of (codes "subresource") ms) ≡ Some (subresource_in (member_of (codes "subresource") ms))
+part-told ms are =
+    elim (member_of (codes "subresource") ms) as (λ o. member_of (codes "subresource") ms ≡ o → part_in o ≡ Some (subresource_in o)) [
+      | None ↦ λ _. refl
+      | Some v ↦ λ is. ap (λ t. if t then Some status else None) (alone (is_subresource v) (member-tested given_shape ms (codes "subresource") v are is))
+    ] refl
+
+-- the members of an entry tell an operation
+pub operation-told : (ms : Members) → are_members_of given_shape ms ≡ true → are_all_there given_shape ms ≡ true
+    → operation_of (text_in (member_of (codes "operation") ms)) ≡ Some (operation_in (member_of (codes "operation") ms))
+operation-told ms are all =
+    elim (member_of (codes "operation") ms) as (λ o. member_of (codes "operation") ms ≡ o → is_some o ≡ true → operation_of (text_in o) ≡ Some (operation_in o)) [
+      | None ↦ λ _ none. absurd (true≢false (sym none))
+      | Some v ↦ λ is _. said v (alone (is_operation v) (member-tested given_shape ms (codes "operation") v are is))
+    ] refl (operation-there ms all)
+  where
+    said : (v : Json) → is_operation v ≡ true → operation_of (text_in (Some v)) ≡ Some (operation_in (Some v))
+    said (scalar (text t)) h = word-is t h
+    said _ h = absurd (true≢false (sym h))
+
+    operation-there : (ms : Members) → are_all_there given_shape ms ≡ true → has_member (codes "operation") ms ≡ true
+    operation-there ms all =
+        let b = second_so (has_member (codes "apiVersion") ms) _ all in
+        let c = second_so (has_member (codes "fieldsType") ms) _ b in
+        let d = second_so (has_member (codes "fieldsV1") ms) _ c in
+        let e = second_so (has_member (codes "manager") ms) _ d in
+        first_so (has_member (codes "operation") ms) _ e
 
 -- ---- members as entries of a map in order
 
@@ -142,12 +175,12 @@ given-sorted version fields name o main time = tt
 given-sorted version fields name o status time = tt
 
 given-says : (version : Text) (fields : Json) (name : Text) (o : Operation) (part : Subresource) (time : Text)
-    → as_members (given version fields name o part time) ≡ members_saying version fields name o part time
+    → object (as_members (given version fields name o part time)) ≡ entry_saying version fields (record { name = name; operation = o; part = part }) time
 unfolding as_members
 given-says version fields name o main time = refl
 given-says version fields name o status time = refl
 
-module _ (ms : Members) (are : are_entry_members ms ≡ true) where
+module _ (ms : Members) (are : are_members_of given_shape ms ≡ true) where
   at : (n q : Text) (v : Json) (rest : Option Json) → member_of n ms ≡ Some v → (same_text q n ≡ false → member_of q ms ≡ rest)
       → member_of q ms ≡ (if same_text q n then Some v else rest)
   at n q v rest here other =
@@ -156,9 +189,9 @@ module _ (ms : Members) (are : are_entry_members ms ≡ true) where
         | false ↦ λ _ go. go refl
       ] refl other
 
-  text-at : (n : Text) → has_member n ms ≡ true → ((v : Json) → is_entry_member n v ≡ true → is_text v ≡ true)
-      → member_of n ms ≡ Some (text_json (text_at n ms))
-  text-at n has tests = text-there ms n are has tests
+  text-at : (n : Text) → has_member n ms ≡ true → ((v : Json) → is_member_of given_shape n v ≡ true → is_text v ≡ true)
+      → member_of n ms ≡ Some (text_json (text_in (member_of n ms)))
+  text-at n has tests = there ms n (λ o. text_json (text_in o)) are has (λ v h. text-is v (tests v h))
 
   -- a subresource stands before the moment, where there is one
   part-at : (q time : Text) → (same_text q (codes "subresource") ≡ false → member_of q ms ≡ find (slice_cmp nat_cmp) q (behind main time))
@@ -166,7 +199,8 @@ module _ (ms : Members) (are : are_entry_members ms ≡ true) where
   part-at q time other =
       elim (member_of (codes "subresource") ms) as (λ o. member_of (codes "subresource") ms ≡ o
       → member_of q ms ≡ find (slice_cmp nat_cmp) q (behind (subresource_in o) time)) [
-        | Some v ↦ λ is. at (codes "subresource") q _ _ (is ∙ ap Some (subresource-is v (member-tested ms (codes "subresource") v are is))) other
+        | Some v ↦ λ is. at (codes "subresource") q _ _
+            (is ∙ ap Some (subresource-is v (alone (is_subresource v) (member-tested given_shape ms (codes "subresource") v are is)))) other
         | None ↦ λ none. elim (same_text q (codes "subresource")) as (λ t. same_text q (codes "subresource") ≡ t
             → member_of q ms ≡ find (slice_cmp nat_cmp) q (behind main time)) [
               | true ↦ λ t. let is = same_text-true q (codes "subresource") t in
@@ -175,43 +209,41 @@ module _ (ms : Members) (are : are_entry_members ms ≡ true) where
             ] refl
       ] refl
 
-  alike : (o : Operation) (q : Text) → list_all (λ n. has_member n ms) (codes "fieldsV1" ∷ entry_texts) ≡ true
-      → same_text (text_at (codes "fieldsType") ms) (codes "FieldsV1") ≡ true → operation_of (text_at (codes "operation") ms) ≡ Some o
-      → member_of q ms ≡ find (slice_cmp nat_cmp) q (given (text_at (codes "apiVersion") ms) (fields_in ms) (text_at (codes "manager") ms) o
-      (subresource_in (member_of (codes "subresource") ms)) (text_at (codes "time") ms))
-  alike o q all kind word =
-      let a = second_so (has_member (codes "fieldsV1") ms) _ all in
-      let b = second_so (has_member (codes "apiVersion") ms) _ a in
+  alike : (q : Text) → are_all_there given_shape ms ≡ true
+      → member_of q ms ≡ find (slice_cmp nat_cmp) q (given (text_at (codes "apiVersion") (object ms)) (member_in (codes "fieldsV1") (object ms))
+      (key_at (object ms)).name (key_at (object ms)).operation (key_at (object ms)).part (text_at (codes "time") (object ms)))
+  alike q all =
+      let b = second_so (has_member (codes "apiVersion") ms) _ all in
       let c = second_so (has_member (codes "fieldsType") ms) _ b in
-      let d = second_so (has_member (codes "manager") ms) _ c in
-      let e = second_so (has_member (codes "operation") ms) _ d in
-      at (codes "apiVersion") q _ _ (text-at (codes "apiVersion") (first_so (has_member (codes "apiVersion") ms) _ a) only-text) (λ f0.
-      at (codes "fieldsType") q _ _ (text-at (codes "fieldsType") (first_so (has_member (codes "fieldsType") ms) _ b) only-text
-      ∙ ap (λ t. Some (text_json t)) (same_text-true _ _ kind)) (λ f1.
-      at (codes "fieldsV1") q _ _ (fields-there ms (first_so (has_member (codes "fieldsV1") ms) _ all)) (λ f2.
-      at (codes "manager") q _ _ (text-at (codes "manager") (first_so (has_member (codes "manager") ms) _ c) only-text) (λ f3.
-      at (codes "operation") q _ _ (text-at (codes "operation") (first_so (has_member (codes "operation") ms) _ d) only-text
-      ∙ ap (λ t. Some (text_json t)) (operation-word _ o word)) (λ f4.
-      part-at q (text_at (codes "time") ms) (λ f6.
-      at (codes "time") q _ _ (text-at (codes "time") (first_so (has_member (codes "time") ms) _ e) only-text) (λ f5.
-      other-none ms q are (λ v i. f2 i || (((f0 i || (f1 i || (f3 i || (f4 i || (f5 i || false))))) && is_text v) || (f6 i && is_subresource v))))))))))
+      let d = second_so (has_member (codes "fieldsV1") ms) _ c in
+      let e = second_so (has_member (codes "manager") ms) _ d in
+      let f = second_so (has_member (codes "operation") ms) _ e in
+      at (codes "apiVersion") q _ _ (text-at (codes "apiVersion") (first_so (has_member (codes "apiVersion") ms) _ all) (λ v. alone (is_text v))) (λ f0.
+      at (codes "fieldsType") q _ _ (there ms (codes "fieldsType") (λ _. text_json (codes "FieldsV1")) are (first_so (has_member (codes "fieldsType") ms) _ b)
+      (λ v h. type-is v (alone (same_json (text_json (codes "FieldsV1")) v) h))) (λ f1.
+      at (codes "fieldsV1") q _ _ (there ms (codes "fieldsV1") value_in are (first_so (has_member (codes "fieldsV1") ms) _ c) (λ v _. refl)) (λ f2.
+      at (codes "manager") q _ _ (text-at (codes "manager") (first_so (has_member (codes "manager") ms) _ d) (λ v. alone (is_text v))) (λ f3.
+      at (codes "operation") q _ _ (there ms (codes "operation") (λ o. text_json (operation_text (operation_in o))) are (first_so (has_member (codes "operation") ms) _ e)
+      (λ v h. operation-is v (alone (is_operation v) h))) (λ f4.
+      part-at q (text_at (codes "time") (object ms)) (λ f5.
+      at (codes "time") q _ _ (text-at (codes "time") (first_so (has_member (codes "time") ms) _ f) (λ v. alone (is_text v))) (λ f6.
+      other-none given_shape ms q are (λ v i. (f0 i && is_text v) || ((f1 i && same_json (text_json (codes "FieldsV1")) v) || ((f2 i && true) || ((f3 i && is_text v)
+      || ((f4 i && is_operation v) || ((f5 i && is_subresource v) || ((f6 i && is_text v) || false)))))))))))))))
 
 -- the members of a map that are an entry's are those that it is written with
-pub members-whole : (es : List Found) (o : Operation) → IsStrictlySortedBy string_cmp (keys_of es) → are_entry_members (members_view es) ≡ true
-    → list_all (λ n. has_member n (members_view es)) (codes "fieldsV1" ∷ entry_texts) ≡ true
-    → same_text (text_at (codes "fieldsType") (members_view es)) (codes "FieldsV1") ≡ true
-    → operation_of (text_at (codes "operation") (members_view es)) ≡ Some o
-    → members_view es ≡ members_saying (text_at (codes "apiVersion") (members_view es)) (fields_in (members_view es))
-    (text_at (codes "manager") (members_view es)) o (subresource_in (member_of (codes "subresource") (members_view es)))
-    (text_at (codes "time") (members_view es))
-members-whole es o sorted are all kind word =
+pub members-whole : (es : List Found) → IsStrictlySortedBy string_cmp (keys_of es) → are_members_of given_shape (members_view es) ≡ true
+    → are_all_there given_shape (members_view es) ≡ true
+    → object (members_view es) ≡ entry_saying (text_at (codes "apiVersion") (object (members_view es))) (member_in (codes "fieldsV1") (object (members_view es)))
+    (key_at (object (members_view es))) (text_at (codes "time") (object (members_view es)))
+members-whole es sorted are all =
     let ms = members_view es in
-    let version = text_at (codes "apiVersion") ms in
-    let name = text_at (codes "manager") ms in
-    let part = subresource_in (member_of (codes "subresource") ms) in
-    let time = text_at (codes "time") ms in
-    members-are es
-    ∙ ap as_members (same_entries (slice_cmp nat_cmp) nat_list_cmp_total (slice_cmp-IsAntisymmetric nat_cmp-IsAntisymmetric) (pairs es)
-    (given version (fields_in ms) name o part time) (pairs-sorted es sorted) (given-sorted version (fields_in ms) name o part time)
-    (λ q. find-member es q ∙ alike ms are o q all kind word))
-    ∙ given-says version (fields_in ms) name o part time
+    let v = object ms in
+    let version = text_at (codes "apiVersion") v in
+    let fields = member_in (codes "fieldsV1") v in
+    let k = key_at v in
+    let time = text_at (codes "time") v in
+    ap object (members-are es)
+    ∙ ap (λ ps. object (as_members ps)) (same_entries (slice_cmp nat_cmp) nat_list_cmp_total (slice_cmp-IsAntisymmetric nat_cmp-IsAntisymmetric) (pairs es)
+    (given version fields k.name k.operation k.part time) (pairs-sorted es sorted) (given-sorted version fields k.name k.operation k.part time)
+    (λ q. find-member es q ∙ alike ms are q all))
+    ∙ given-says version fields k.name k.operation k.part time

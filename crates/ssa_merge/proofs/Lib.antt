@@ -21,3 +21,4 @@ mod NotOwnable
 mod EntryFaults
 mod EntriesBack
 pub mod OwnOutside
+pub mod KeyTexts

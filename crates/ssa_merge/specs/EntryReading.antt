@@ -1,15 +1,14 @@
 -- What reading one entry answers, and what the entry says.
-use Rattle.std.specs.Prelude.{◌≡◌, List, [], ◌∷◌, true, false, Option, Some, None, Result, Ok, Err, codes}
+use Rattle.std.specs.Prelude.{◌≡◌, List, [], ◌∷◌, true, Option, Some, None, Result, Ok, Err, codes}
 use Rattle.arrayvec.specs.ArrayVec.{ArrayVec}
 use Rattle.ssa_json.specs.View.{view}
-use Rattle.ssa_model.specs.definitions.Json.{Text, Json, scalar, list, object, Members, no_members, member, member_of}
-use Rattle.ssa_model.specs.definitions.Parts.{Subresource}
+use Rattle.ssa_model.specs.definitions.Json.{Text, Json, object, no_members, member}
+use Rattle.ssa_model.specs.definitions.Values.{text_json, member_in, text_at}
 use Rattle.ssa_model.specs.definitions.Path.{Path}
 use Rattle.ssa_model.specs.definitions.PathMap.{PathSet}
-use Rattle.ssa_model.specs.definitions.Keys.{subresource_in, operation_text, part_members, operation_of, ManagerKey}
-use Rattle.ssa_model.specs.definitions.Values.{text_json, text_at}
+use Rattle.ssa_model.specs.definitions.Keys.{ManagerKey, with_key, key_at}
 use Rattle.ssa_model.specs.definitions.GivenEntries as model
-use Rattle.ssa_model.specs.definitions.GivenEntries.{is_entry, fields_in}
+use Rattle.ssa_model.specs.definitions.GivenEntries.{is_entry}
 use Rattle.ssa_model.specs.definitions.Table as table
 use Rattle.ssa_model.specs.definitions.Table.{Table}
 use Rattle.ssa_path.specs.Subresources.{part_view}
@@ -34,36 +33,26 @@ first_of (p ∷ ps) = Some p
 
 -- ---- what an entry says
 
--- the members of an entry that says this
-abbrev pub members_saying : Text → Json → Text → table.Operation → Subresource → Text → Members
-members_saying version fields name operation part time =
-    member (codes "apiVersion") (text_json version)
+-- the key that is said
+abbrev pub said_key : Said → ManagerKey
+said_key s = record { name = s.name.now; operation = operation_view s.operation; part = part_view s.part }
+
+-- an entry that says this
+abbrev pub entry_saying : Text → Json → ManagerKey → Text → Json
+entry_saying version fields key time =
+    object (member (codes "apiVersion") (text_json version)
     (member (codes "fieldsType") (text_json (codes "FieldsV1"))
     (member (codes "fieldsV1") fields
-    (member (codes "manager") (text_json name)
-    (member (codes "operation") (text_json (operation_text operation))
-    (part_members part (member (codes "time") (text_json time) no_members))))))
+    (with_key key (member (codes "time") (text_json time) no_members)))))
 
--- the members are an entry's, and say this
-pub record Says (ms : Members) (s : Said) : Type 0 where
-  pub entry : is_entry ms ≡ true
-  pub name : s.name.now ≡ text_at (codes "manager") ms
-  pub operation : Some (operation_view s.operation) ≡ operation_of (text_at (codes "operation") ms)
-  pub part : part_view s.part ≡ subresource_in (member_of (codes "subresource") ms)
-  pub version : s.version.now ≡ text_at (codes "apiVersion") ms
-  pub time : s.time.now ≡ text_at (codes "time") ms
-  pub fields : view s.fields.now ≡ fields_in ms
-  pub whole : ms ≡ members_saying s.version.now (view s.fields.now) s.name.now (operation_view s.operation) (part_view s.part) s.time.now
-
-abbrev pub IsNoEntry : Json → Type 0
-IsNoEntry (object ms) = is_entry ms ≡ false
-IsNoEntry (scalar s) = Unit {0}
-IsNoEntry (list vs) = Unit {0}
-
-abbrev pub SaysIn : Json → Said → Type 0
-SaysIn (object ms) s = Says ms s
-SaysIn (scalar v) s = ⊥
-SaysIn (list vs) s = ⊥
+-- the value is an entry, and says this
+pub record Says (v : Json) (s : Said) : Type 0 where
+  pub entry : is_entry v ≡ true
+  pub key : said_key s ≡ key_at v
+  pub version : s.version.now ≡ text_at (codes "apiVersion") v
+  pub time : s.time.now ≡ text_at (codes "time") v
+  pub fields : view s.fields.now ≡ member_in (codes "fieldsV1") v
+  pub whole : v ≡ entry_saying s.version.now (view s.fields.now) (said_key s) s.time.now
 
 -- ---- answers
 

@@ -8,3 +8,4 @@ pub mod States
 pub mod Plans
 pub mod EntriesBack
 pub mod InPart
+pub mod KeyMembers

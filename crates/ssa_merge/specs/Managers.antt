@@ -3,6 +3,7 @@ use Rattle.std.specs.Prelude.{List, map, string_bytes, Option, Some, None, Vec}
 use Rattle.std.specs.Borrow.{Bor}
 use Rattle.std.specs.declared.alloc.Global.{Global}
 use Rattle.ssa_model.specs.definitions.PathMap.{PathSet}
+use Rattle.ssa_model.specs.definitions.Keys as keys
 use Rattle.ssa_model.specs.definitions.Table as model
 use Rattle.ssa_model.specs.definitions.Operations.{Clash}
 use Rattle.ssa_path.specs.Subresources.{part_view}
@@ -11,15 +12,15 @@ use Rattle.ssa_merge.specs.declared.manager.Operation.TheVariants.{Apply, Update
 use Rattle.ssa_merge.specs.declared.manager.ManagerKey.{ManagerKey}
 use Rattle.ssa_merge.specs.declared.managers.Entry.{Entry}
 
-abbrev pub operation_view : Operation → model.Operation
-operation_view Apply = model.applies
-operation_view Update = model.updates
+abbrev pub operation_view : Operation → keys.Operation
+operation_view Apply = keys.applies
+operation_view Update = keys.updates
 
-abbrev pub key_view : ManagerKey → model.ManagerKey
+abbrev pub key_view : ManagerKey → keys.ManagerKey
 key_view k = record { name = string_bytes k.name; operation = operation_view k.operation; part = part_view k.part }
 
 -- the managers that are lent
-abbrev pub lent_keys : List (Bor ManagerKey) → List model.ManagerKey
+abbrev pub lent_keys : List (Bor ManagerKey) → List keys.ManagerKey
 lent_keys = map (λ k. key_view k.now)
 
 abbrev pub entry_view : Entry → model.Entry

@@ -7,6 +7,6 @@ use Rattle.ssa_merge.specs.declared.state.State.{State}
 abbrev pub state_view : State → model.State
 state_view s = record { body = s.body; table = s.managers }
 
--- who acts under a name through a part
-abbrev pub actor : Text → Subresource → Actor
-actor n s = record { name = n; part = s }
+-- who acts under a name through a part, at a moment
+abbrev pub actor : Text → Subresource → Text → Actor
+actor n s at = record { name = n; part = s; moment = at }

@@ -87,7 +87,7 @@ fn key_of(
     operation: Operation,
     part: Part,
 ) -> Result<ManagerKey, AllocError>
-    ensures { IfOk result (λ k. key_view k ≡ key_of (operation_view operation) (actor who.now (part_view part))) }
+    ensures { IfOk result (λ k. key_view k ≡ record { name = who.now; operation = operation_view operation; part = part_view part }) }
 {
     let name = Name::from_str(alloc, who)?;
     Ok(ManagerKey {
@@ -260,7 +260,7 @@ pub fn change_apply(
     requires alike { AreAlike state.now.body config }
     requires named { is_manager_name who.now ≡ true }
     requires owned { AllEntries (OwnsOwnable state.now.body) state.now.managers }
-    ensures change { IsChanged (state_view state.now) result (apply (state_view state.now) (key_of applies (actor who.now (part_view part))) config force at) }
+    ensures change { IsChanged (state_view state.now) result (apply (state_view state.now) (key_of applies (actor who.now (part_view part) at)) config force at) }
     ensures valid { IfOk result (λ c. (kind : Kind) → IsValidState kind (state_view state.now) → IsBodyOf kind config → IsValidState kind (changed_state (state_view state.now) c.body c.comparison.removed c.table)) }
     ensures order { IfOk result (ChangesInOrder (state_view state.now)) }
     ensures outside { IfOk result (λ c. (kind : Kind) → IsValidState kind (state_view state.now) → StaysOutside (part_view part) state.now.body (body_after c.body c.comparison.removed state.now.body)) }
@@ -369,7 +369,7 @@ pub fn change_update(
     at: Moment,
 ) -> Result<Change, Refusal>
     requires { is_manager_name who.now ≡ true }
-    ensures change { IsChanged (state_view state.now) result (update (state_view state.now) (key_of updates (actor who.now (part_view part))) object at) }
+    ensures change { IsChanged (state_view state.now) result (update (state_view state.now) (key_of updates (actor who.now (part_view part) at)) object at) }
     ensures valid { IfOk result (λ c. (kind : Kind) → IsValidState kind (state_view state.now) → IsBodyOf kind object → IsValidState kind (changed_state (state_view state.now) c.body c.comparison.removed c.table)) }
     ensures order { IfOk result (ChangesInOrder (state_view state.now)) }
     ensures outside { IfOk result (λ c. StaysOutside (part_view part) state.now.body (body_after c.body c.comparison.removed state.now.body)) }

@@ -10,7 +10,6 @@ use crate::managers::{Entry, Managers};
 use ssa_json::members::{put_member, put_text};
 use ssa_json::value::Json;
 use ssa_members::Members;
-use ssa_path::part_members::put_part;
 use std::alloc::{AllocError, Global};
 
 impl Entry {
@@ -27,9 +26,7 @@ impl Entry {
         let time = self.at.to_text(alloc)?;
         let mut members = Members::new(alloc);
         put_text(alloc, &mut members, "time", time.as_str())?;
-        put_part(alloc, &mut members, self.key.part)?;
-        put_text(alloc, &mut members, "operation", self.key.operation.text())?;
-        put_text(alloc, &mut members, "manager", self.key.name.as_str())?;
+        self.key.put_members(alloc, &mut members)?;
         put_member(alloc, &mut members, "fieldsV1", fields)?;
         put_text(alloc, &mut members, "fieldsType", "FieldsV1")?;
         put_text(alloc, &mut members, "apiVersion", api_version)?;

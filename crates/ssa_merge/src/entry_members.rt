@@ -1,13 +1,12 @@
 //! What the members of an entry of `managedFields` say.
-ghost use Rattle.std.specs.Prelude.{◌≡◌, ◌∷◌, ◌&&◌, MatchOption, codes, false, option_map, is_some};
+ghost use Rattle.std.specs.Prelude.{◌≡◌, MatchOption, codes, false, option_map};
 ghost use Rattle.ssa_members.specs.Members.{IsRising};
-ghost use Rattle.std.specs.List.{list_all, list_any};
 ghost use Rattle.ssa_json.specs.View.{view, members_view};
-ghost use Rattle.ssa_model.specs.definitions.Values.{text_in, has_member};
-ghost use Rattle.ssa_model.specs.definitions.GivenEntries.{are_entry_members, entry_texts, is_entry, is_entry_member};
-ghost use Rattle.ssa_model.specs.definitions.Json.{member_of, same_text};
-ghost use Rattle.ssa_model.specs.definitions.Keys.{operation_of};
-ghost use Rattle.ssa_merge.specs.EntryReading.{IsNoEntry, Says, SaysIn};
+ghost use Rattle.ssa_model.specs.definitions.Json.{member_of, object, same_json};
+ghost use Rattle.ssa_model.specs.definitions.Values.{are_all_there, are_members_of, is_member_of, is_text, text_in, text_json};
+ghost use Rattle.ssa_model.specs.definitions.Keys.{is_operation, operation_of};
+ghost use Rattle.ssa_model.specs.definitions.GivenEntries.{given_shape, is_entry};
+ghost use Rattle.ssa_merge.specs.EntryReading.{Says};
 ghost use Rattle.ssa_merge.specs.Managers.{operation_view};
 
 use crate::manager::Operation;
@@ -29,27 +28,60 @@ pub struct Said<'a> {
     pub fields: &'a Json,
 }
 
-// Whether a member of this name is a text.
-fn is_text_name(name: &str) -> bool
-    ensures { result ≡ list_any (same_text name.now) entry_texts }
+/// The operation of this word in `managedFields`, where it is one.
+pub fn operation_of(text: &str) -> Option<Operation>
+    ensures { option_map operation_view result ≡ operation_of text.now }
 {
-    is_same_text(name, "apiVersion")
-        || is_same_text(name, "fieldsType")
-        || is_same_text(name, "manager")
-        || is_same_text(name, "operation")
-        || is_same_text(name, "time")
+    if is_same_text(text, "Apply") {
+        return Some(Operation::Apply);
+    }
+    if is_same_text(text, "Update") {
+        return Some(Operation::Update);
+    }
+    None
 }
 
-fn is_entry_member(name: &str, value: &Json) -> bool
-    ensures { result ≡ is_entry_member name.now (view value.now) }
+// Whether the value is the word of an operation.
+fn is_operation(value: &Json) -> bool
+    ensures { result ≡ is_operation (view value.now) }
 {
-    is_same_text(name, "fieldsV1")
-        || (is_text_name(name) && value.as_text().is_some())
+    match value.as_text() {
+        Some(text) => operation_of(text).is_some(),
+        None => false,
+    }
+}
+
+// Whether the value is the type of fields.
+fn is_fields_type(value: &Json) -> bool
+    ensures { result ≡ same_json (text_json (codes "FieldsV1")) (view value.now) }
+{
+    match value.as_text() {
+        Some(text) => is_same_text("FieldsV1", text),
+        None => false,
+    }
+}
+
+fn is_text(value: &Json) -> bool
+    ensures { result ≡ is_text (view value.now) }
+{
+    value.as_text().is_some()
+}
+
+// Whether an entry may have the member.
+fn is_entry_member(name: &str, value: &Json) -> bool
+    ensures { result ≡ is_member_of given_shape name.now (view value.now) }
+{
+    (is_same_text(name, "apiVersion") && is_text(value))
+        || (is_same_text(name, "fieldsType") && is_fields_type(value))
+        || is_same_text(name, "fieldsV1")
+        || (is_same_text(name, "manager") && is_text(value))
+        || (is_same_text(name, "operation") && is_operation(value))
         || (is_same_text(name, "subresource") && part_of_name(value).is_some())
+        || (is_same_text(name, "time") && is_text(value))
 }
 
 fn are_entry_members(members: &Members<Json>) -> bool
-    ensures told { result ≡ are_entry_members (members_view members.now.entries) }
+    ensures told { result ≡ are_members_of given_shape (members_view members.now.entries) }
     ensures ordered { IsRising members.now.entries }
 {
     for (name, value) in members.entries() {
@@ -61,11 +93,11 @@ fn are_entry_members(members: &Members<Json>) -> bool
 }
 
 fn has_all_members(members: &Members<Json>) -> bool
-    ensures { result ≡ list_all (λ n. has_member n (members_view members.now.entries)) (codes "fieldsV1" ∷ entry_texts) }
+    ensures { result ≡ are_all_there given_shape (members_view members.now.entries) }
 {
-    has_member(members, "fieldsV1")
-        && has_member(members, "apiVersion")
+    has_member(members, "apiVersion")
         && has_member(members, "fieldsType")
+        && has_member(members, "fieldsV1")
         && has_member(members, "manager")
         && has_member(members, "operation")
         && has_member(members, "time")
@@ -81,31 +113,19 @@ fn text_at<'a>(members: &'a Members<Json>, name: &str) -> &'a str
     }
 }
 
-/// The operation of this word in `managedFields`, where it is one.
-pub fn operation_of(text: &str) -> Option<Operation>
-    ensures { option_map operation_view result ≡ operation_of text.now }
-{
-    if is_same_text(text, "Apply") {
-        return Some(Operation::Apply);
-    }
-    if is_same_text(text, "Update") {
-        return Some(Operation::Update);
-    }
-    None
-}
-
 // What members say, where they are an entry's.
 fn said_by(members: &Members<Json>) -> Option<Said<'_>>
-    ensures { MatchOption result (is_entry (members_view members.now.entries) ≡ false) (λ s. Says (members_view members.now.entries) s) }
+    ensures { MatchOption result (is_entry (object (members_view members.now.entries)) ≡ false) (λ s. Says (object (members_view members.now.entries)) s) }
 {
     if !are_entry_members(members) || !has_all_members(members) {
         return None;
     }
-    if !is_same_text(text_at(members, "fieldsType"), "FieldsV1") {
-        return None;
-    }
-    let operation = operation_of(text_at(members, "operation"))?;
-    let part = part_of_members(members)?;
+    let Some(operation) = operation_of(text_at(members, "operation")) else {
+        unreachable!("an entry has an operation");
+    };
+    let Some(part) = part_of_members(members) else {
+        unreachable!("an entry's subresource is one");
+    };
     let Some(fields) = find_member(members, "fieldsV1") else {
         unreachable!("an entry has all its members");
     };
@@ -124,7 +144,7 @@ fn said_by(members: &Members<Json>) -> Option<Said<'_>>
 /// fields type `FieldsV1` and the operation `Apply` or `Update`, and of a `subresource`, which is
 /// `status`, where it was owned through one.
 pub fn said_in(entry: &Json) -> Option<Said<'_>>
-    ensures { MatchOption result (IsNoEntry (view entry.now)) (λ s. SaysIn (view entry.now) s) }
+    ensures { MatchOption result (is_entry (view entry.now) ≡ false) (λ s. Says (view entry.now) s) }
 {
     match entry {
         Json::Object(members) => said_by(members),

@@ -25,6 +25,7 @@ pub mod entry_fault;
 pub mod entry_members;
 pub mod entry_read;
 mod given_up;
+mod key_members;
 pub(crate) mod loss;
 pub mod manager;
 pub mod managers;

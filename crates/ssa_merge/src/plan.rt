@@ -97,7 +97,7 @@ pub fn plan_apply(
     requires alike { AreAlike state.now.body config }
     requires named { is_manager_name who.now ≡ true }
     requires owned { AllEntries (OwnsOwnable state.now.body) state.now.managers }
-    ensures plan { IsPlanned (state_view state.now) result (apply (state_view state.now) (key_of applies (actor who.now (part_view part))) config force at) }
+    ensures plan { IsPlanned (state_view state.now) result (apply (state_view state.now) (key_of applies (actor who.now (part_view part) at)) config force at) }
     ensures fits { IfOk result (λ p. (kind : Kind) → IsBodyOf kind state.now.body → IsBodyOf kind config → IsBodyOf kind p.target.body) }
     ensures valid { IfOk result (λ p. (kind : Kind) → IsValidState kind (state_view state.now) → IsBodyOf kind config → IsValidState kind (state_view p.target)) }
     ensures order { IfOk result (StandInOrder (state_view state.now)) }
@@ -123,7 +123,7 @@ pub fn plan_update(
     at: Moment,
 ) -> Result<Plan, Refusal>
     requires { is_manager_name who.now ≡ true }
-    ensures plan { IsPlanned (state_view state.now) result (update (state_view state.now) (key_of updates (actor who.now (part_view part))) object at) }
+    ensures plan { IsPlanned (state_view state.now) result (update (state_view state.now) (key_of updates (actor who.now (part_view part) at)) object at) }
     ensures fits { IfOk result (λ p. (kind : Kind) → IsBodyOf kind state.now.body → IsBodyOf kind object → IsBodyOf kind p.target.body) }
     ensures valid { IfOk result (λ p. (kind : Kind) → IsValidState kind (state_view state.now) → IsBodyOf kind object → IsValidState kind (state_view p.target)) }
     ensures order { IfOk result (StandInOrder (state_view state.now)) }

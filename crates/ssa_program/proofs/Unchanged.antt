@@ -1,6 +1,7 @@
 -- Commands that change no bench.
 use Rattle.std.proofs.Common.{◌≡◌, true, false, ◌&&◌, refl}
 use Rattle.ssa_model.specs.definitions.History.{Bench}
+use Rattle.ssa_model.specs.definitions.Commands.{change, undo, redo, show, owners, log}
 use Rattle.ssa_model.specs.definitions.Answers as answers
 use Rattle.ssa_model.specs.definitions.Answers.{Reply, answer}
 use Rattle.ssa_model.specs.definitions.Subcommands.{is_accepted, is_change}
@@ -14,7 +15,7 @@ refused-reply (answers.shown v) is = absurd cc
 refused-reply (answers.owned_by ks) is = absurd cc
 refused-reply (answers.logged past future) is = absurd cc
 
-refused-stays : (bench : Bench) (c : answers.Command) → (is_accepted (answer bench c).0 && true) ≡ false → (answer bench c).1 ≡ bench
+refused-stays : (bench : Bench) (c : answers.BenchCommand) → (is_accepted (answer bench c).0 && true) ≡ false → (answer bench c).1 ≡ bench
 refused-stays bench c is =
     elim (is_accepted (answer bench c).0) as (λ b. is_accepted (answer bench c).0 ≡ b → (b && true) ≡ false → (answer bench c).1 ≡ bench) [
       | true ↦ λ _ no. absurd cc
@@ -22,12 +23,10 @@ refused-stays bench c is =
     ] refl is
 
 -- a command that is refused, or only looks, leaves the bench
-pub unchanged : (bench : Bench) (c : answers.Command) → (is_accepted (answer bench c).0 && is_change c) ≡ false → (answer bench c).1 ≡ bench
-unchanged bench (answers.apply who force at v) is = refused-stays bench (answers.apply who force at v) is
-unchanged bench (answers.update who at v) is = refused-stays bench (answers.update who at v) is
-unchanged bench answers.strip is = refused-stays bench answers.strip is
-unchanged bench answers.undo is = refused-stays bench answers.undo is
-unchanged bench answers.redo is = refused-stays bench answers.redo is
-unchanged bench (answers.show managed) is = refl
-unchanged bench (answers.owners p) is = refl
-unchanged bench answers.log is = refl
+pub unchanged : (bench : Bench) (c : answers.BenchCommand) → (is_accepted (answer bench c).0 && is_change c) ≡ false → (answer bench c).1 ≡ bench
+unchanged bench (change d) is = refused-stays bench (change d) is
+unchanged bench undo is = refused-stays bench undo is
+unchanged bench redo is = refused-stays bench redo is
+unchanged bench (show managed) is = refl
+unchanged bench (owners p) is = refl
+unchanged bench log is = refl

@@ -6,7 +6,7 @@ use Rattle.ssa_model.specs.definitions.History.{Bench}
 use Rattle.ssa_model.specs.definitions.Json.{Text}
 use Rattle.ssa_model.specs.definitions.Lines.{line_feed}
 use Rattle.ssa_model.specs.definitions.RecordedBench.{recorded_text}
-use Rattle.ssa_model.specs.definitions.Subcommands.{strip, undo, redo, show, owners, log}
+use Rattle.ssa_model.specs.definitions.Commands.{change, strip, undo, redo, show, owners, log}
 use Rattle.ssa_disk.specs.Files.{Files, IsAsBut, draft_of, under}
 use Rattle.ssa_session.specs.Effects.{RunsAll, RunsPartly, RunsWhole}
 use Rattle.ssa_words.specs.declared.call.Call.{Call}
@@ -141,7 +141,7 @@ module _ (old new : Files) {W : Type 0} (contents : W → Option Text) (has_fail
         Changes bench.now (λ files. IsChanged files bench.now file.now (Apply bench file at manager status force)) s
     IsDone (Update bench file at manager status) s =
         Changes bench.now (λ files. IsChanged files bench.now file.now (Update bench file at manager status)) s
-    IsDone (Strip bench) s = Changes bench.now (λ files. IsAnswered files bench.now strip) s
+    IsDone (Strip bench) s = Changes bench.now (λ files. IsAnswered files bench.now (change strip)) s
     IsDone (Undo bench) s = Changes bench.now (λ files. IsAnswered files bench.now undo) s
     IsDone (Redo bench) s = Changes bench.now (λ files. IsAnswered files bench.now redo) s
     IsDone (Show bench managed) s = Looks (IsSeen old bench.now (show managed)) s
@@ -155,7 +155,7 @@ module _ (old new : Files) {W : Type 0} (contents : W → Option Text) (has_fail
         ChangeStops bench.now (λ files. IsChanged files bench.now file.now (Apply bench file at manager status force)) t
     IsStopped (Update bench file at manager status) t =
         ChangeStops bench.now (λ files. IsChanged files bench.now file.now (Update bench file at manager status)) t
-    IsStopped (Strip bench) t = ChangeStops bench.now (λ files. IsAnswered files bench.now strip) t
+    IsStopped (Strip bench) t = ChangeStops bench.now (λ files. IsAnswered files bench.now (change strip)) t
     IsStopped (Undo bench) t = ChangeStops bench.now (λ files. IsAnswered files bench.now undo) t
     IsStopped (Redo bench) t = ChangeStops bench.now (λ files. IsAnswered files bench.now redo) t
     IsStopped (Show bench managed) t = LookStops bench.now (IsSeen old bench.now (show managed)) t

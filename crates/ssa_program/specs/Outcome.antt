@@ -3,6 +3,7 @@ use Rattle.std.specs.Prelude.{◌≡◌, ℕ, ◌+◌, Bool, true, false, Option
 use Rattle.ssa_model.specs.definitions.Json.{Text}
 use Rattle.ssa_model.specs.definitions.Limits.{most_input_bytes, most_bench_bytes}
 use Rattle.ssa_model.specs.definitions.BenchText.{depths}
+use Rattle.ssa_model.specs.definitions.Commands.{change, apply, update}
 use Rattle.ssa_model.specs.definitions.Files.{schema_of_file, bench_with_file}
 use Rattle.ssa_model.specs.definitions.History.{Bench}
 use Rattle.ssa_model.specs.definitions.Parts as part
@@ -63,8 +64,10 @@ part_of true = part.status
 part_of false = part.main
 
 abbrev pub IsAskedBy : Call → Text → subcommands.Asked → Type 0
-IsAskedBy (Apply bench file at manager status force) object asked = asked ≡ subcommands.apply (record { name = manager.now; part = part_of status }) force at.now object
-IsAskedBy (Update bench file at manager status) object asked = asked ≡ subcommands.update (record { name = manager.now; part = part_of status }) at.now object
+IsAskedBy (Apply bench file at manager status force) object asked =
+    asked ≡ change (apply (record { name = manager.now; part = part_of status; moment = at.now }) force object)
+IsAskedBy (Update bench file at manager status) object asked =
+    asked ≡ change (update (record { name = manager.now; part = part_of status; moment = at.now }) object)
 IsAskedBy _ object asked = ⊥
 
 abbrev pub IsChange : Call → Type 0

@@ -4,7 +4,7 @@ use Rattle.std.specs.Prelude.{◌≤◌, if◌then◌else◌, nat_lt, length}
 use Rattle.ssa_model.specs.definitions.Json.{same_text}
 use Rattle.ssa_model.specs.definitions.Limits.{most_line_bytes}
 use Rattle.ssa_model.specs.definitions.History.{Bench}
-use Rattle.ssa_model.specs.definitions.Answers.{Command, run}
+use Rattle.ssa_model.specs.definitions.Answers.{run, BenchCommand}
 use Rattle.ssa_model.specs.definitions.Session.{LineFault, answer_read, command_in, out_of_memory_text, read_line, too_long_text}
 use Rattle.ssa_model.specs.laws.Headline.{AnswersAreTold, RunIsInEffect, RunGoesOn, RunsGoOn}
 use Rattle.ssa_json.specs.Readings.{readings}
@@ -20,12 +20,12 @@ Bytes = List ℕ
 -- ---- one line
 
 -- the bench after a line that was read
-after-read : (old : Bench) (r : Result Command LineFault) → (answer_read readings old r).1 ≡ (run old (elim r [ Ok c ↦ c ∷ [] | Err f ↦ [] ])).1
+after-read : (old : Bench) (r : Result BenchCommand LineFault) → (answer_read readings old r).1 ≡ (run old (elim r [ Ok c ↦ c ∷ [] | Err f ↦ [] ])).1
 after-read old (Ok c) = refl
 after-read old (Err f) = refl
 
 -- the command of a line over the limit, and of another
-command_by : Bool → Bytes → List Command
+command_by : Bool → Bytes → List BenchCommand
 command_by long line = if long then [] else elim (read_line readings line) [ Ok c ↦ c ∷ [] | Err f ↦ [] ]
 
 after-line : (long : Bool) (old : Bench) (line : Bytes) → (if long then old else bench_after old line) ≡ (run old (command_by long line)).1
@@ -39,14 +39,14 @@ told-by laws true old line = laws.0
 told-by laws false old line = laws.1 readings old line
 
 -- the commands of a line with this reply
-abbrev given_by : Bytes → Bytes → List Command
+abbrev given_by : Bytes → Bytes → List BenchCommand
 given_by line text = if same_text text out_of_memory_text then [] else command_in readings line
 
-unless-want : (b : Bool) (cs : List Command) → b ≡ false → (if b then [] else cs) ≡ cs
+unless-want : (b : Bool) (cs : List BenchCommand) → b ≡ false → (if b then [] else cs) ≡ cs
 unless-want true cs h = cc
 unless-want false cs h = refl
 
-if-want : (b : Bool) (cs : List Command) → b ≡ true → (if b then [] else cs) ≡ []
+if-want : (b : Bool) (cs : List BenchCommand) → b ≡ true → (if b then [] else cs) ≡ []
 if-want true cs h = refl
 if-want false cs h = cc
 

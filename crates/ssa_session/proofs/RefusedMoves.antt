@@ -3,8 +3,9 @@ use Rattle.std.proofs.Common.{sym, ◌≡◌, refl, ap, ◌∙◌}
 use Rattle.std.specs.Prelude.{Result, Ok, Err, IfOk}
 use Rattle.ssa_model.specs.definitions.Json.{Text, compact}
 use Rattle.ssa_model.specs.definitions.History.{Bench, past_len, future_len}
-use Rattle.ssa_model.specs.definitions.Answers.{Fault, nothing_to_undo, nothing_to_redo, Reply, fault, answer, undo, redo}
+use Rattle.ssa_model.specs.definitions.Answers.{Fault, nothing_to_undo, nothing_to_redo, Reply, fault, answer}
 use Rattle.ssa_model.specs.definitions.Replies.{fault_reply, reply_text}
+use Rattle.ssa_model.specs.definitions.Commands.{undo, redo}
 
 -- the text of a move's fault is that of the reply, which is the fault
 pub move-refused : {X E : Type 0} (r : Result X E) (text : X → Text) (f : Fault) (reply : Reply) → reply ≡ fault f

@@ -2,6 +2,8 @@
 ghost use Rattle.std.specs.Prelude.{◌≡◌, IfOk, OnErr, false, true};
 ghost use Rattle.ssa_model.specs.definitions.Answers as model;
 ghost use Rattle.ssa_model.specs.definitions.Answers.{answer};
+ghost use Rattle.ssa_model.specs.definitions.Commands.{log, owners, redo, show, undo};
+ghost use Rattle.ssa_model.specs.definitions.Commands as commands;
 ghost use Rattle.ssa_model.specs.definitions.Json.{compact};
 ghost use Rattle.ssa_model.specs.definitions.Replies.{fault_reply, reply_text};
 ghost use Rattle.ssa_model.specs.definitions.Subcommands.{is_accepted};
@@ -72,9 +74,9 @@ fn answer_change(
     alloc: Global,
     change: change::Command,
 ) -> Result<Answered, AllocError>
-    ensures reply { IfOk result (λ a. a.text.items ≡ reply_text (answer bench.old (changes.command_view change)).0) }
-    ensures accepted { IfOk result (λ a. a.is_accepted ≡ is_accepted (answer bench.old (changes.command_view change)).0) }
-    ensures after { IfOk result (λ _. bench.new ≡ (answer bench.old (changes.command_view change)).1) }
+    ensures reply { IfOk result (λ a. a.text.items ≡ reply_text (answer bench.old (commands.change (changes.command_view change))).0) }
+    ensures accepted { IfOk result (λ a. a.is_accepted ≡ is_accepted (answer bench.old (commands.change (changes.command_view change))).0) }
+    ensures after { IfOk result (λ _. bench.new ≡ (answer bench.old (commands.change (changes.command_view change))).1) }
     ensures err { OnErr result (bench.new ≡ bench.old) }
 {
     let word = change_word(&change);
@@ -91,9 +93,9 @@ fn answer_change(
 
 // Goes back by a command. The reply's text is made before.
 fn answer_undo(bench: &mut Bench, alloc: Global) -> Result<Answered, AllocError>
-    ensures reply { IfOk result (λ a. a.text.items ≡ reply_text (answer bench.old model.undo).0) }
-    ensures accepted { IfOk result (λ a. a.is_accepted ≡ is_accepted (answer bench.old model.undo).0) }
-    ensures after { IfOk result (λ _. bench.new ≡ (answer bench.old model.undo).1) }
+    ensures reply { IfOk result (λ a. a.text.items ≡ reply_text (answer bench.old undo).0) }
+    ensures accepted { IfOk result (λ a. a.is_accepted ≡ is_accepted (answer bench.old undo).0) }
+    ensures after { IfOk result (λ _. bench.new ≡ (answer bench.old undo).1) }
     ensures err { OnErr result (bench.new ≡ bench.old) }
 {
     let past = bench.past_len();
@@ -110,9 +112,9 @@ fn answer_undo(bench: &mut Bench, alloc: Global) -> Result<Answered, AllocError>
 
 // Goes on by a command. The reply's text is made before.
 fn answer_redo(bench: &mut Bench, alloc: Global) -> Result<Answered, AllocError>
-    ensures reply { IfOk result (λ a. a.text.items ≡ reply_text (answer bench.old model.redo).0) }
-    ensures accepted { IfOk result (λ a. a.is_accepted ≡ is_accepted (answer bench.old model.redo).0) }
-    ensures after { IfOk result (λ _. bench.new ≡ (answer bench.old model.redo).1) }
+    ensures reply { IfOk result (λ a. a.text.items ≡ reply_text (answer bench.old redo).0) }
+    ensures accepted { IfOk result (λ a. a.is_accepted ≡ is_accepted (answer bench.old redo).0) }
+    ensures after { IfOk result (λ _. bench.new ≡ (answer bench.old redo).1) }
     ensures err { OnErr result (bench.new ≡ bench.old) }
 {
     let future = bench.future_len();
@@ -129,7 +131,7 @@ fn answer_redo(bench: &mut Bench, alloc: Global) -> Result<Answered, AllocError>
 
 // The object of the present state, with the managers' entries where they are asked for.
 fn answer_show(bench: &Bench, alloc: Global, managed: bool) -> Result<Vec<u8>, AllocError>
-    ensures { IfOk result (λ text. text.items ≡ reply_text (answer bench.now (model.show managed)).0) }
+    ensures { IfOk result (λ text. text.items ≡ reply_text (answer bench.now (show managed)).0) }
 {
     let object = bench.show(alloc, managed)?;
     shown_text(alloc, &object)
@@ -137,7 +139,7 @@ fn answer_show(bench: &Bench, alloc: Global, managed: bool) -> Result<Vec<u8>, A
 
 // The managers that own a path.
 fn answer_owners(bench: &Bench, alloc: Global, path: &Path) -> Result<Vec<u8>, AllocError>
-    ensures { IfOk result (λ text. text.items ≡ reply_text (answer bench.now (model.owners path.now)).0) }
+    ensures { IfOk result (λ text. text.items ≡ reply_text (answer bench.now (owners path.now)).0) }
 {
     let owners = bench.owners(alloc, path)?;
     let text = owners_text(alloc, &owners)?;
@@ -146,7 +148,7 @@ fn answer_owners(bench: &Bench, alloc: Global, path: &Path) -> Result<Vec<u8>, A
 
 // The commands of the history.
 fn answer_log(bench: &Bench, alloc: Global) -> Result<Vec<u8>, AllocError>
-    ensures { IfOk result (λ text. text.items ≡ reply_text (answer bench.now model.log).0) }
+    ensures { IfOk result (λ text. text.items ≡ reply_text (answer bench.now log).0) }
 {
     let log = bench.log(alloc)?;
     let text = log_text(alloc, &log)?;

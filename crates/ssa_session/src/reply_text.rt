@@ -16,7 +16,6 @@ use ssa_json::value::Json;
 use ssa_json::write::push_comma;
 use ssa_lines::json_text::{FIRST_ROOM, push_number, push_string, push_value};
 use ssa_merge::manager::ManagerKey;
-use ssa_path::part_members::push_part;
 use ssa_path::path_text::push_paths;
 use std::alloc::{AllocError, Global};
 
@@ -130,11 +129,8 @@ fn push_shown(text: &mut Vec<u8>, object: &Json) -> Result<(), AllocError>
 fn push_manager(text: &mut Vec<u8>, manager: &ManagerKey) -> Result<(), AllocError>
     ensures { OnOk result (text.new.items ≡ text.old.items ++ compact (key_json (key_view manager.now))) }
 {
-    text.extend_from_slice(b"{\"manager\":")?;
-    push_string(text, manager.name.as_str())?;
-    text.extend_from_slice(b",\"operation\":")?;
-    push_string(text, manager.operation.text())?;
-    push_part(text, manager.part)?;
+    text.push(b'{')?;
+    manager.push_members(text, false)?;
     text.push(b'}')?;
     Ok(())
 }

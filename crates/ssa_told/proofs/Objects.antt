@@ -6,12 +6,12 @@ use Rattle.std.specs.Map.{keys_of}
 use Rattle.std.specs.Cmp.{first_so, second_so}
 use Rattle.ssa_model.specs.definitions.Json.{Text, Json, object, member_of}
 use Rattle.ssa_model.specs.definitions.Values.{text_in, value_in, Test, MemberShape, has_members, is_list_of, is_whole, is_text}
-use Rattle.ssa_model.specs.definitions.RecordReading.{is_fields, is_moment, is_path, is_put, change_shape, entry_shape, here_shape, record_shape, is_record_shape}
+use Rattle.ssa_model.specs.definitions.RecordReading.{is_fields, is_moment, is_path, is_put, change_shape, here_shape, record_shape, is_record_shape}
 use Rattle.ssa_model.specs.definitions.Keys.{is_subresource, is_key, is_operation}
 use Rattle.ssa_json.specs.Readings.{readings}
 use Rattle.ssa_json.specs.View.{members_view}
 use Rattle.ssa_json.specs.declared.value.Json as values
-use Rattle.ssa_told.specs.Shapes.{is_leaf, is_order, are_body_lists, are_table_lists}
+use Rattle.ssa_told.specs.Shapes.{is_leaf, is_order, are_body_lists, are_table_lists, here_entry_shape}
 use Rattle.ssa_told.specs.Telling.{passes, may_pass, are_key, are_named}
 use Rattle.ssa_told.proofs.MemberShapes.{AreApart, shape-fits}
 use Rattle.ssa_model.proofs.Basics.{and-false, or-false}
@@ -56,7 +56,7 @@ change-apart = (
   ),
 )
 
-entry-apart : AreApart (entry_shape readings) (entry_shape readings)
+entry-apart : AreApart here_entry_shape here_entry_shape
 entry-apart = (
   λ v. or-false (is_text v),
   (
@@ -78,7 +78,7 @@ entry-apart = (
 )
 
 here-apart : AreApart (here_shape readings) (here_shape readings)
-here-apart = (λ v. or-false (has_members (entry_shape readings) v), (λ v. or-false (is_whole v), tt))
+here-apart = (λ v. or-false (has_members here_entry_shape v), (λ v. or-false (is_whole v), tt))
 
 record-apart : AreApart (record_shape readings) (record_shape readings)
 record-apart = (
@@ -182,18 +182,18 @@ module _ (es : List Found) (sorted : IsStrictlySortedBy string_cmp (keys_of es))
   moment-there = text-there (is_moment readings) (at (codes "time"))
 
   abbrev is_entry : Bool
-  is_entry = has_members (entry_shape readings) (object (members_view es))
+  is_entry = has_members here_entry_shape (object (members_view es))
 
-  entry-is : is_entry ≡ (named (entry_shape readings) && (version && (type && (fields && (key && (time && true))))))
+  entry-is : is_entry ≡ (named here_entry_shape && (version && (type && (fields && (key && (time && true))))))
   entry-is =
-      shape-fits (entry_shape readings) es sorted entry-apart
-      ∙ ap (λ b. named (entry_shape readings) && (version && (type && (fields && b)))) (key-is (time && true))
+      shape-fits here_entry_shape es sorted entry-apart
+      ∙ ap (λ b. named here_entry_shape && (version && (type && (fields && b)))) (key-is (time && true))
 
   -- with other members it is no entry
-  pub entry-named : named (entry_shape readings) ≡ false → is_entry ≡ false
+  pub entry-named : named here_entry_shape ≡ false → is_entry ≡ false
   entry-named n = entry-is ∙ (λ i. n i && (version && (type && (fields && (key && (time && true))))))
 
-  module _ (n : named (entry_shape readings) ≡ true) where
+  module _ (n : named here_entry_shape ≡ true) where
     -- without a version or a type of the fields that are texts it is no entry
     pub entry-texts : (version && type) ≡ false → is_entry ≡ false
     entry-texts t = entry-is ∙ (λ i. n i && both-refused version type (fields && (key && (time && true))) t i)
@@ -218,7 +218,7 @@ module _ (es : List Found) (sorted : IsStrictlySortedBy string_cmp (keys_of es))
   -- ---- an entry that is here
 
   abbrev entry : Bool
-  entry = passes (has_members (entry_shape readings)) (at (codes "entry"))
+  entry = passes (has_members here_entry_shape) (at (codes "entry"))
 
   abbrev place : Bool
   place = passes is_whole (at (codes "place"))

@@ -1,10 +1,9 @@
 -- The shapes of the parts of a record's value.
 use Rattle.std.specs.Prelude.{◌≡◌, Bool, true, ◌&&◌, List, [], ◌∷◌, codes}
 use Rattle.ssa_model.specs.definitions.Keys.{is_subresource, is_key, is_operation}
-use Rattle.ssa_model.specs.definitions.GivenEntries.{said_entry}
+use Rattle.ssa_model.specs.definitions.GivenEntries.{entry_shape, said_entry}
 use Rattle.ssa_model.specs.definitions.Json.{Json, object, Members, member_of}
-use Rattle.ssa_model.specs.definitions.Objects.{members_of_value}
-use Rattle.ssa_model.specs.definitions.RecordReading.{is_path, is_put, change_shape, entry_shape, here_shape, record_shape}
+use Rattle.ssa_model.specs.definitions.RecordReading.{is_fields, is_moment, is_path, is_put, change_shape, here_shape, record_shape}
 use Rattle.ssa_model.specs.definitions.Values.{MemberShape, Test, is_anything, is_list_of, is_whole, has_items, has_members, is_text}
 use Rattle.ssa_model.specs.definitions.Table as model
 use Rattle.ssa_json.specs.Readings.{readings}
@@ -30,18 +29,22 @@ is_placed = has_items (is_path readings ∷ is_anything ∷ is_whole ∷ [])
 abbrev pub is_longer_key : Test
 is_longer_key = has_items (is_text ∷ is_operation ∷ is_subresource ∷ [])
 
+-- an entry that is here
+abbrev pub here_entry_shape : List MemberShape
+here_entry_shape = entry_shape is_text (is_fields readings) (is_moment readings)
+
 abbrev pub shapes_of : Shape → List MemberShape
 shapes_of Line = line_shape is_anything is_anything
 shapes_of Record = record_shape readings
 shapes_of Change = change_shape readings
 shapes_of Here = here_shape readings
-shapes_of Entry = entry_shape readings
+shapes_of Entry = here_entry_shape
 
 -- ---- the members of a record
 
 -- what the value of an entry says
 abbrev pub entry_in : Json → model.Entry
-entry_in v = said_entry readings (members_of_value v)
+entry_in v = said_entry readings v
 
 abbrev pub are_body_lists : Members → Bool
 are_body_lists ms =

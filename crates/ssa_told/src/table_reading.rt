@@ -4,9 +4,9 @@ ghost use Rattle.ssa_json.specs.Readings.{readings};
 ghost use Rattle.ssa_json.specs.View.{view, members_view};
 ghost use Rattle.ssa_merge.specs.Managers.{entry_view};
 ghost use Rattle.ssa_model.specs.definitions.Json.{member_of, object};
-ghost use Rattle.ssa_model.specs.definitions.RecordReading.{change_in, change_shape, entry_shape, here_in, here_shape};
+ghost use Rattle.ssa_model.specs.definitions.RecordReading.{change_in, change_shape, here_in, here_shape};
 ghost use Rattle.ssa_model.specs.definitions.Values.{has_members, is_text};
-ghost use Rattle.ssa_told.specs.Shapes.{are_table_lists, entry_in, TellsTable};
+ghost use Rattle.ssa_told.specs.Shapes.{are_table_lists, entry_in, TellsTable, here_entry_shape};
 ghost use Rattle.ssa_told.specs.Telling.{passes, Tells, TellsList, TellsMoment};
 ghost use Rattle.ssa_told.specs.Told.{told_change, told_here};
 
@@ -93,7 +93,7 @@ fn entry_of(
     room: &mut ReadingRoom,
     members: &Members<Json>,
 ) -> Result<Option<Entry>, AllocError>
-    ensures { IfOk result (λ t. Tells (has_members (entry_shape readings)) entry_view entry_in t (Some (object (members_view members.now.entries)))) }
+    ensures { IfOk result (λ t. Tells (has_members here_entry_shape) entry_view entry_in t (Some (object (members_view members.now.entries)))) }
 {
     if !have_names_of(Shape::Entry, members) {
         return Ok(None);
@@ -118,7 +118,7 @@ fn read_entry(
     room: &mut ReadingRoom,
     value: &Json,
 ) -> Result<Option<Entry>, AllocError>
-    ensures { IfOk result (λ t. Tells (has_members (entry_shape readings)) entry_view entry_in t (Some (view value.now))) }
+    ensures { IfOk result (λ t. Tells (has_members here_entry_shape) entry_view entry_in t (Some (view value.now))) }
 {
     match value {
         Json::Object(members) => entry_of(alloc, room, members),
@@ -132,7 +132,7 @@ fn entry_at(
     room: &mut ReadingRoom,
     members: &Members<Json>,
 ) -> Result<Option<Entry>, AllocError>
-    ensures { IfOk result (λ t. Tells (has_members (entry_shape readings)) entry_view entry_in t
+    ensures { IfOk result (λ t. Tells (has_members here_entry_shape) entry_view entry_in t
         (member_of (codes "entry") (members_view members.now.entries))) }
 {
     match find_member(members, "entry") {

@@ -2,6 +2,7 @@
 use Rattle.std.specs.Prelude.{List, [], ◌∷◌, ◌++◌, map, length, string_bytes}
 use Rattle.std.specs.Borrow.{Bor}
 use Rattle.std.specs.List.{All}
+use Rattle.ssa_model.specs.definitions.Commands.{apply, update, strip}
 use Rattle.ssa_model.specs.definitions.History as model
 use Rattle.ssa_model.specs.definitions.Operations.{State}
 pub use Rattle.ssa_model.specs.definitions.History.{preceded}
@@ -18,9 +19,9 @@ use Rattle.ssa_turn.specs.declared.label.Label.TheVariants.{Apply, Update, Strip
 use Rattle.ssa_turn.specs.declared.timeline.Timeline.TheInside.{Inside}
 
 abbrev pub label_view : Label → model.Label
-label_view (Apply at force who part) = model.applied (actor (string_bytes who) (part_view part)) force at
-label_view (Update at who part) = model.updated (actor (string_bytes who) (part_view part)) at
-label_view Strip = model.stripped
+label_view (Apply at force who part) = apply (actor (string_bytes who) (part_view part) at) force tt
+label_view (Update at who part) = update (actor (string_bytes who) (part_view part) at) tt
+label_view Strip = strip
 
 -- the labels that are lent
 abbrev pub lent_labels : List (Bor Label) → List model.Label

@@ -1,9 +1,7 @@
 -- What the members of a label's value say.
-use Rattle.std.specs.Prelude.{◌≡◌, Bool, true, false, Option, Some, None, codes}
+use Rattle.std.specs.Prelude.{◌≡◌, Bool, true, false, Option, Some, None}
 use Rattle.ssa_model.specs.definitions.Json.{Text, Json, member_at}
 use Rattle.ssa_model.specs.definitions.Values.{text_in, truth_in}
-use Rattle.ssa_model.specs.definitions.Parts.{Actor}
-use Rattle.ssa_model.specs.definitions.Keys.{subresource_in}
 use Rattle.ssa_json.specs.Readings.{readings}
 
 abbrev pub said_text : Text → Json → Text
@@ -11,10 +9,6 @@ said_text n v = text_in (member_at n v)
 
 abbrev pub said_truth : Text → Json → Bool
 said_truth n v = truth_in (member_at n v)
-
--- the manager that is named, and the part through which it acts
-abbrev pub said_actor : Json → Actor
-said_actor v = record { name = said_text (codes "manager") v; part = subresource_in (member_at (codes "subresource") v) }
 
 -- the moment is the text, or the text is no moment
 abbrev pub MomentIn : Option Text → Text → Type 0

@@ -1,6 +1,6 @@
 //! The commands that made the states of a history, and how they are told.
 ghost use Rattle.std.specs.Prelude.{◌≡◌, ◌++◌, IfOk, OnOk, true};
-ghost use Rattle.ssa_model.specs.definitions.History.{applied, stripped, updated};
+ghost use Rattle.ssa_model.specs.definitions.Commands.{apply, strip, update};
 ghost use Rattle.ssa_model.specs.definitions.Json.{compact};
 ghost use Rattle.ssa_model.specs.definitions.Replies.{label_json};
 ghost use Rattle.ssa_json.specs.View.{view};
@@ -43,7 +43,7 @@ fn applied_json(
     who: &str,
     part: Part,
 ) -> Result<Json, AllocError>
-    ensures { IfOk result (λ v. view v ≡ label_json (applied (actor who.now (part_view part)) force at.now)) }
+    ensures { IfOk result (λ v. view v ≡ label_json (apply (actor who.now (part_view part) at.now) force tt)) }
 {
     let time = at.to_text(alloc)?;
     let force = Json::Scalar(Scalar::Bool(force));
@@ -57,7 +57,7 @@ fn applied_json(
 }
 
 fn updated_json(alloc: Global, at: &Moment, who: &str, part: Part) -> Result<Json, AllocError>
-    ensures { IfOk result (λ v. view v ≡ label_json (updated (actor who.now (part_view part)) at.now)) }
+    ensures { IfOk result (λ v. view v ≡ label_json (update (actor who.now (part_view part) at.now) tt)) }
 {
     let time = at.to_text(alloc)?;
     let mut members = Members::new(alloc);
@@ -69,7 +69,7 @@ fn updated_json(alloc: Global, at: &Moment, who: &str, part: Part) -> Result<Jso
 }
 
 fn stripped_json(alloc: Global) -> Result<Json, AllocError>
-    ensures { IfOk result (λ v. view v ≡ label_json stripped) }
+    ensures { IfOk result (λ v. view v ≡ label_json strip) }
 {
     let mut members = Members::new(alloc);
     put_text(alloc, &mut members, "do", "strip")?;
@@ -84,8 +84,8 @@ fn push_applied(
     who: &str,
     part: Part,
 ) -> Result<(), AllocError>
-    ensures text { OnOk result (text.new.items ≡ text.old.items ++ compact (label_json (applied (actor who.now (part_view part)) force at.now))) }
-    ensures of_program { OnOk result (IsOfProgram (label_json (applied (actor who.now (part_view part)) force at.now))) }
+    ensures text { OnOk result (text.new.items ≡ text.old.items ++ compact (label_json (apply (actor who.now (part_view part) at.now) force tt))) }
+    ensures of_program { OnOk result (IsOfProgram (label_json (apply (actor who.now (part_view part) at.now) force tt))) }
 {
     let time = at.to_text(alloc)?;
     let forced = Json::Scalar(Scalar::Bool(force));
@@ -106,8 +106,8 @@ fn push_updated(
     who: &str,
     part: Part,
 ) -> Result<(), AllocError>
-    ensures text { OnOk result (text.new.items ≡ text.old.items ++ compact (label_json (updated (actor who.now (part_view part)) at.now))) }
-    ensures of_program { OnOk result (IsOfProgram (label_json (updated (actor who.now (part_view part)) at.now))) }
+    ensures text { OnOk result (text.new.items ≡ text.old.items ++ compact (label_json (update (actor who.now (part_view part) at.now) tt))) }
+    ensures of_program { OnOk result (IsOfProgram (label_json (update (actor who.now (part_view part) at.now) tt))) }
 {
     let time = at.to_text(alloc)?;
     text.push(b'{')?;
@@ -120,8 +120,8 @@ fn push_updated(
 }
 
 fn push_stripped(text: &mut Vec<u8>) -> Result<(), AllocError>
-    ensures text { OnOk result (text.new.items ≡ text.old.items ++ compact (label_json stripped)) }
-    ensures of_program { OnOk result (IsOfProgram (label_json stripped)) }
+    ensures text { OnOk result (text.new.items ≡ text.old.items ++ compact (label_json strip)) }
+    ensures of_program { OnOk result (IsOfProgram (label_json strip)) }
 {
     text.push(b'{')?;
     push_text_member(text, false, "do", "strip")?;

@@ -1,14 +1,15 @@
 //! The command that a value says, as a bench file tells of each state but the first.
 ghost use Rattle.std.specs.Prelude.{◌≡◌, ◌&&◌, IfOk, option_map, codes};
-ghost use Rattle.ssa_model.specs.definitions.History.{applied, is_manager_name, updated};
+ghost use Rattle.ssa_model.specs.definitions.History.{is_manager_name};
 ghost use Rattle.ssa_model.specs.definitions.BenchOfStates.{given_if, label_in};
 ghost use Rattle.ssa_json.specs.Readings.{readings};
 ghost use Rattle.ssa_json.specs.View.{view};
 ghost use Rattle.ssa_turn.specs.Histories.{label_view};
-ghost use Rattle.ssa_turn.specs.LabelReading.{MomentIn, said_actor, said_text, said_truth};
+ghost use Rattle.ssa_turn.specs.LabelReading.{MomentIn, said_text, said_truth};
 ghost use Rattle.ssa_path.specs.Subresources.{part_view};
 ghost use Rattle.ssa_model.specs.definitions.Keys.{subresource_in};
 ghost use Rattle.ssa_model.specs.definitions.Json.{member_at};
+ghost use Rattle.ssa_model.specs.definitions.Commands.{actor_in, apply, update};
 
 use crate::label::Label;
 use ssa_json::moment::Moment;
@@ -65,7 +66,7 @@ fn part_in(value: &Json) -> Part
 fn applied_in(alloc: Global, value: &Json) -> Result<Option<Label>, AllocError>
     ensures { IfOk result (λ found. option_map label_view found ≡ given_if
         (is_manager_name (said_text (codes "manager") (view value.now)) && readings.moment (said_text (codes "at") (view value.now)))
-        (applied (said_actor (view value.now)) (said_truth (codes "force") (view value.now)) (said_text (codes "at") (view value.now)))) }
+        (apply (actor_in (view value.now)) (said_truth (codes "force") (view value.now)) tt)) }
 {
     let who = text_in(value, "manager");
     if !is_manager_name(who) {
@@ -89,7 +90,7 @@ fn applied_in(alloc: Global, value: &Json) -> Result<Option<Label>, AllocError>
 fn updated_in(alloc: Global, value: &Json) -> Result<Option<Label>, AllocError>
     ensures { IfOk result (λ found. option_map label_view found ≡ given_if
         (is_manager_name (said_text (codes "manager") (view value.now)) && readings.moment (said_text (codes "at") (view value.now)))
-        (updated (said_actor (view value.now)) (said_text (codes "at") (view value.now)))) }
+        (update (actor_in (view value.now)) tt)) }
 {
     let who = text_in(value, "manager");
     if !is_manager_name(who) {

@@ -2,14 +2,14 @@
 use Rattle.std.proofs.Common.{◌≡◌, ℕ, zero, suc, ◌+◌, ◌<◌, ◌≤◌, ◌^◌, List, [], ◌∷◌, Bool, true, false, length, get_or, Option, Some, None, refl, sym, subst, arith}
 use Rattle.std.specs.Prelude.{codes, if◌then◌else◌}
 use Rattle.ssa_model.specs.definitions.Json.{Json, Text, no_members, member}
-use Rattle.ssa_model.specs.definitions.Keys.{part_members}
+use Rattle.ssa_model.specs.definitions.Keys.{ManagerKey, with_key}
 use Rattle.ssa_model.specs.definitions.Objects.{with_member}
 use Rattle.ssa_model.specs.definitions.Parts.{Subresource, main, status}
 use Rattle.ssa_model.specs.definitions.PathMap.{PathSet}
 use Rattle.ssa_model.specs.definitions.Record.{placed}
 use Rattle.ssa_model.specs.definitions.RecordText.{time_members}
 use Rattle.ssa_model.specs.definitions.Table.{Entry, Table, owned_by}
-use Rattle.ssa_path.specs.PartMembers.{with_part}
+use Rattle.ssa_merge.specs.KeyMembers.{key_put}
 use Rattle.ssa_merge.specs.Managers.{key_view}
 use Rattle.ssa_turn_set.specs.Turn.{HasRoom}
 use Rattle.ssa_turn_table.specs.Changing.{AllHaveRoom}
@@ -18,15 +18,23 @@ use Rattle.ssa_turn_table.specs.Writing.{with_time, HaveSmallPlaces}
 use Rattle.ssa_turn_table.specs.declared.delta.EntryChange.{EntryChange}
 use Rattle.ssa_turn_table.specs.declared.delta.Here.{Here}
 
--- the members of a change, put one after another in front of that of its subresource, and the moment behind them
-pub members_put : (s : Subresource) (at : Option Text) (a b c d : Json)
-    → with_time at (with_member (codes "gain") a (with_member (codes "lose") b (with_member (codes "manager") c
-    (with_member (codes "operation") d (with_part s no_members)))))
-    ≡ member (codes "gain") a (member (codes "lose") b (member (codes "manager") c (member (codes "operation") d (part_members s (time_members at)))))
-members_put main None a b c d = refl
-members_put main (Some at) a b c d = refl
-members_put status None a b c d = refl
-members_put status (Some at) a b c d = refl
+-- the key of the same name and operation, in this part
+abbrev in_part : ManagerKey → Subresource → ManagerKey
+in_part k s = record { name = k.name; operation = k.operation; part = s }
+
+-- the members of a change, put one after another in front of its key's, and the moment behind them
+pub members_put : (k : ManagerKey) (at : Option Text) (a b : Json)
+    → with_time at (with_member (codes "gain") a (with_member (codes "lose") b (key_put k no_members)))
+    ≡ member (codes "gain") a (member (codes "lose") b (with_key k (time_members at)))
+members_put k at a b = by k.part at
+  where
+    by : (s : Subresource) (at : Option Text)
+        → with_time at (with_member (codes "gain") a (with_member (codes "lose") b (key_put (in_part k s) no_members)))
+        ≡ member (codes "gain") a (member (codes "lose") b (with_key (in_part k s) (time_members at)))
+    by main None = refl
+    by main (Some at) = refl
+    by status None = refl
+    by status (Some at) = refl
 
 -- each change has room
 pub room-at : (t : Table) (cs : List EntryChange) (i : ℕ) (c : EntryChange) → i < length cs → c ≡ get_or cs i c → AllHaveRoom t cs → (s : PathSet)

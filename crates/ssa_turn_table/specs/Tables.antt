@@ -1,6 +1,7 @@
 -- What the members of a table's record are.
 use Rattle.std.specs.Prelude.{ℕ, List, map}
 use Rattle.ssa_model.specs.definitions.PathMap.{listed}
+use Rattle.ssa_model.specs.definitions.Keys as keys
 use Rattle.ssa_model.specs.definitions.Table as model
 use Rattle.ssa_model.specs.definitions.Record as record_model
 use Rattle.ssa_merge.specs.Managers.{entry_view, key_view}
@@ -15,7 +16,7 @@ change_view c = record { manager = key_view c.key; gain = listed (paths c.set.ga
 abbrev pub changes_view : List EntryChange → List record_model.Change
 changes_view = map change_view
 
-abbrev pub keys_view : List ManagerKey → List model.ManagerKey
+abbrev pub keys_view : List ManagerKey → List keys.ManagerKey
 keys_view = map key_view
 
 abbrev pub here_view : Here → ℕ × model.Entry

@@ -14,7 +14,6 @@ ghost use Rattle.ssa_turn_table.specs.Turning.{table_steps};
 use crate::delta::{EntryChange, TableDelta};
 use ssa_json::moment::Moment;
 use ssa_json::write::{push_comma, push_name, push_text_member};
-use ssa_path::part_members::push_part;
 use std::alloc::{AllocError, Global};
 
 // Appends a change's moment, where it is another, and the brace that closes the change.
@@ -43,9 +42,7 @@ fn push_change(alloc: Global, text: &mut Vec<u8>, change: &EntryChange) -> Resul
     change.set.gain.as_trie().push_fields_v1(alloc, text)?;
     push_name(text, true, "lose")?;
     change.set.lose.as_trie().push_fields_v1(alloc, text)?;
-    push_text_member(text, true, "manager", change.key.name.as_str())?;
-    push_text_member(text, true, "operation", change.key.operation.text())?;
-    push_part(text, change.key.part)?;
+    change.key.push_members(text, true)?;
     push_time(alloc, text, change.at)
 }
 

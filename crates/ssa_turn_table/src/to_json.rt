@@ -19,7 +19,6 @@ use ssa_json::moment::Moment;
 use ssa_json::value::Json;
 use ssa_members::Members;
 use ssa_merge::manager::ManagerKey;
-use ssa_path::part_members::put_part;
 use std::alloc::{AllocError, Global};
 
 // Puts a moment, where there is one, among members.
@@ -49,14 +48,7 @@ fn change_value(alloc: Global, change: &EntryChange) -> Result<Json, AllocError>
     let gain = change.set.gain.as_trie().to_fields_v1(alloc)?;
     let lose = change.set.lose.as_trie().to_fields_v1(alloc)?;
     let mut members = Members::new(alloc);
-    put_part(alloc, &mut members, change.key.part)?;
-    put_text(
-        alloc,
-        &mut members,
-        "operation",
-        change.key.operation.text(),
-    )?;
-    put_text(alloc, &mut members, "manager", change.key.name.as_str())?;
+    change.key.put_members(alloc, &mut members)?;
     put_member(alloc, &mut members, "lose", lose)?;
     put_member(alloc, &mut members, "gain", gain)?;
     put_time(alloc, &mut members, change.at)?;

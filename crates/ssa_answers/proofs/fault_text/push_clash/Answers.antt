@@ -1,6 +1,3 @@
-use Rattle.std.proofs.Common.{◌++◌, ap, ◌∙◌}
-use Rattle.ssa_model.specs.definitions.Values.{text_json}
-use Rattle.ssa_model.specs.definitions.Json.{compact}
 use Rattle.ssa_model.specs.definitions.Operations.{Clash}
 use Rattle.ssa_merge.specs.Managers.{key_view}
 use Rattle.ssa_answers.proofs.FaultFacts.{clash-written}
@@ -9,9 +6,5 @@ use Rattle.ssa_answers.proofs.fault_text.push_clash.Goals as goal
 pub returns : goal.returns
 returns c =
     let clash : Clash = record { manager = key_view c.args.manager.now; fields = c.args.fields.now } in
-    clash-written clash c.args.text.now.items c.in_ok-extend_from_slice.ensures.items c.in_ok-push_paths.ensures.text
-    c.in_ok-extend_from_slice-2.ensures.items
-    (c.in_ok-push_string.ensures ∙ ap (λ t. c.extend_from_slice-2.new.self.items ++ compact (text_json t)) c.as_str.ensures.value)
-    c.in_ok-extend_from_slice-3.ensures.items
-    (c.in_ok-push_string-2.ensures ∙ ap (λ t. c.extend_from_slice-3.new.self.items ++ compact (text_json t)) c.text.ensures)
-    c.in_ok-push_part.ensures c.in_ok-push.ensures.items
+    clash-written clash c.args.text.now.items c.in_ok-extend_from_slice.ensures.items c.in_ok-push_paths.ensures.text c.in_ok-push_members.ensures.text
+    c.in_ok-push.ensures.items

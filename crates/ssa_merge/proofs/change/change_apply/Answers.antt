@@ -27,15 +27,15 @@ returns-clause-change c =
 
 pub returns-clause-valid : goal.returns-clause-valid
 returns-clause-valid c =
-    applied_valid (state_view c.args.state.now) (key_of applies (actor c.args.who.now (part_view c.args.part))) c.args.config c.args.force c.args.at c.applied.result
+    applied_valid (state_view c.args.state.now) (key_of applies (actor c.args.who.now (part_view c.args.part) c.args.at)) c.args.config c.args.force c.args.at c.applied.result
     c.requires.named c.stands_rooted.ensures (returns-clause-change c)
 
 pub returns-clause-order : goal.returns-clause-order
 returns-clause-order c =
-    applied_order (state_view c.args.state.now) (key_of applies (actor c.args.who.now (part_view c.args.part))) c.args.config c.args.force c.args.at c.applied.result
+    applied_order (state_view c.args.state.now) (key_of applies (actor c.args.who.now (part_view c.args.part) c.args.at)) c.args.config c.args.force c.args.at c.applied.result
     (returns-clause-change c)
 
 pub returns-clause-outside : goal.returns-clause-outside
 returns-clause-outside c =
-    applied_outside (state_view c.args.state.now) (key_of applies (actor c.args.who.now (part_view c.args.part))) c.args.config c.args.force c.args.at c.applied.result
+    applied_outside (state_view c.args.state.now) (key_of applies (actor c.args.who.now (part_view c.args.part) c.args.at)) c.args.config c.args.force c.args.at c.applied.result
     (returns-clause-change c)

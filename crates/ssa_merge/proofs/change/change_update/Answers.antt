@@ -16,15 +16,15 @@ returns-clause-change c =
 
 pub returns-clause-valid : goal.returns-clause-valid
 returns-clause-valid c =
-    updated_valid (state_view c.args.state.now) (key_of updates (actor c.args.who.now (part_view c.args.part))) c.args.object c.args.at c.updated.result c.requires
+    updated_valid (state_view c.args.state.now) (key_of updates (actor c.args.who.now (part_view c.args.part) c.args.at)) c.args.object c.args.at c.updated.result c.requires
     c.stands_rooted.ensures (returns-clause-change c)
 
 pub returns-clause-order : goal.returns-clause-order
 returns-clause-order c =
-    updated_order (state_view c.args.state.now) (key_of updates (actor c.args.who.now (part_view c.args.part))) c.args.object c.args.at c.updated.result
+    updated_order (state_view c.args.state.now) (key_of updates (actor c.args.who.now (part_view c.args.part) c.args.at)) c.args.object c.args.at c.updated.result
     (returns-clause-change c)
 
 pub returns-clause-outside : goal.returns-clause-outside
 returns-clause-outside c =
-    updated_outside (state_view c.args.state.now) (key_of updates (actor c.args.who.now (part_view c.args.part))) c.args.object c.args.at c.updated.result
+    updated_outside (state_view c.args.state.now) (key_of updates (actor c.args.who.now (part_view c.args.part) c.args.at)) c.args.object c.args.at c.updated.result
     (returns-clause-change c)

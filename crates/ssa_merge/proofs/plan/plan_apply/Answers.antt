@@ -14,7 +14,7 @@ use Rattle.ssa_merge.proofs.plan.plan_apply.Goals as goal
 pub returns-clause-fits : goal.returns-clause-fits
 returns-clause-fits c =
     let state = state_view c.args.state.now in
-    let a = key_of applies (actor c.args.who.now (part_view c.args.part)) in
+    let a = key_of applies (actor c.args.who.now (part_view c.args.part) c.args.at) in
     let given = apply state a c.args.config c.args.force c.args.at in
     let planned : IsPlanned state (Ok c.in_ok-plan.plan) given =
     completed state c.in_ok-change.change c.in_ok-plan.plan given c.in_ok-change.ensures.change c.in_ok-plan.ensures in

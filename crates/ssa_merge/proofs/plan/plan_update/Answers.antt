@@ -14,7 +14,7 @@ use Rattle.ssa_merge.proofs.plan.plan_update.Goals as goal
 pub returns-clause-fits : goal.returns-clause-fits
 returns-clause-fits c =
     let state = state_view c.args.state.now in
-    let u = key_of updates (actor c.args.who.now (part_view c.args.part)) in
+    let u = key_of updates (actor c.args.who.now (part_view c.args.part) c.args.at) in
     let given = update state u c.args.object c.args.at in
     let planned : IsPlanned state (Ok c.in_ok-plan.plan) given =
     completed state c.in_ok-change.change c.in_ok-plan.plan given c.in_ok-change.ensures.change c.in_ok-plan.ensures in

@@ -11,7 +11,7 @@ use Rattle.ssa_turn.proofs.label.push_updated.Goals as goal
 pub returns-clause-text : goal.returns-clause-text
 returns-clause-text c =
     let time = ap text_json (c.as_str.ensures.value ∙ c.in_ok-time.ensures) in
-    updated-written (actor c.args.who.now (part_view c.args.part)) c.args.at.now c.args.text.now.items c.in_ok-push.ensures.items
+    updated-written (actor c.args.who.now (part_view c.args.part) c.args.at.now) c.args.text.now.items c.in_ok-push.ensures.items
     (member-as c.push.new.self.items false (codes "at") c.in_ok-push_text_member.ensures.text time)
     c.in_ok-push_text_member-2.ensures.text
     c.in_ok-push_text_member-3.ensures.text
@@ -21,7 +21,7 @@ returns-clause-text c =
 pub returns-clause-of_program : goal.returns-clause-of_program
 returns-clause-of_program c =
     let time = ap text_json (c.as_str.ensures.value ∙ c.in_ok-time.ensures) in
-    updated-of-program (actor c.args.who.now (part_view c.args.part)) c.args.at.now
+    updated-of-program (actor c.args.who.now (part_view c.args.part) c.args.at.now)
     c.in_ok-push_text_member.ensures.utf8 (subst IsOfProgram time c.in_ok-push_text_member.ensures.of_program)
     c.in_ok-push_text_member-2.ensures.utf8 c.in_ok-push_text_member-2.ensures.of_program
     c.in_ok-push_text_member-3.ensures.utf8 c.in_ok-push_text_member-3.ensures.of_program

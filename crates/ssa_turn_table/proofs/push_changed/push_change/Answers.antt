@@ -1,7 +1,6 @@
 use Rattle.std.proofs.Common.{true, false, ap, subst}
 use Rattle.std.specs.Prelude.{codes}
 use Rattle.std.proofs.lemmas.Result.{on_ok_weaker}
-use Rattle.ssa_model.specs.definitions.Values.{text_json}
 use Rattle.ssa_model.specs.definitions.FieldsV1.{fields_json}
 use Rattle.ssa_model.specs.definitions.PathMap.{listed}
 use Rattle.ssa_json.specs.Writable.{IsOfProgram}
@@ -22,9 +21,7 @@ returns-clause-text c =
     (member-of c.push.new.self.items false (codes "gain") _ c.in_ok-push_name.ensures.text c.in_ok-push_fields_v1.ensures.text) gain)
     (member-as c.push_fields_v1.new.text.items true (codes "lose")
     (member-of c.push_fields_v1.new.text.items true (codes "lose") _ c.in_ok-push_name-2.ensures.text c.in_ok-push_fields_v1-2.ensures.text) lose)
-    (member-as c.push_fields_v1-2.new.text.items true (codes "manager") c.in_ok-push_text_member.ensures.text (ap text_json c.as_str.ensures.value))
-    (member-as c.push_text_member.new.text.items true (codes "operation") c.in_ok-push_text_member-2.ensures.text (ap text_json c.text.ensures))
-    c.in_ok-push_part.ensures)
+    c.in_ok-push_members.ensures.text)
     c.push_time.ensures.text
 
 pub returns-clause-of_program : goal.returns-clause-of_program
@@ -34,7 +31,5 @@ returns-clause-of_program c =
     let lose = ap (λ t. fields_json (listed (paths t))) c.as_trie-2.ensures in
     on_ok_weaker c.push_time.result
     (change-of-program change c.in_ok-push_name.ensures.utf8 (subst IsOfProgram gain c.in_ok-push_fields_v1.ensures.of_program)
-    c.in_ok-push_name-2.ensures.utf8 (subst IsOfProgram lose c.in_ok-push_fields_v1-2.ensures.of_program)
-    c.in_ok-push_text_member.ensures.utf8 (subst IsOfProgram (ap text_json c.as_str.ensures.value) c.in_ok-push_text_member.ensures.of_program)
-    c.in_ok-push_text_member-2.ensures.utf8 (subst IsOfProgram (ap text_json c.text.ensures) c.in_ok-push_text_member-2.ensures.of_program))
+    c.in_ok-push_name-2.ensures.utf8 (subst IsOfProgram lose c.in_ok-push_fields_v1-2.ensures.of_program) c.in_ok-push_members.ensures.of_program)
     c.push_time.ensures.of_program

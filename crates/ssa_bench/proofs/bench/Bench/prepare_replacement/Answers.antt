@@ -1,16 +1,18 @@
-use Rattle.std.proofs.Common.{ap, sym, subst, ◌∙◌, string_bytes}
+use Rattle.std.proofs.Common.{ap, refl, sym, subst, ◌∙◌, string_bytes}
 use Rattle.std.specs.Prelude.{Result, Ok, Err, codes}
 use Rattle.ssa_model.specs.definitions.Json.{Text}
 use Rattle.ssa_model.specs.definitions.History as model
 use Rattle.ssa_model.specs.definitions.History.{is_manager_name, present}
-use Rattle.ssa_model.specs.definitions.Operations.{State, Refusal, update}
+use Rattle.ssa_model.specs.definitions.Operations.{State, Refusal}
+use Rattle.ssa_model.specs.definitions.Operations as operations
+use Rattle.ssa_model.specs.definitions.Commands.{update}
 use Rattle.ssa_model.specs.definitions.Keys.{updates, key_of}
 use Rattle.ssa_model.specs.definitions.Valid.{IsValidState, IsValidBody}
 use Rattle.ssa_model.specs.definitions.RecordReading.{HasReadPaths}
 use Rattle.ssa_json.specs.Readings.{readings}
 use Rattle.ssa_path.specs.Subresources.{part_view}
 use Rattle.ssa_merge.specs.States.{actor, state_view}
-use Rattle.ssa_bench.specs.Benches.{IsPrepared, update_answer}
+use Rattle.ssa_bench.specs.Benches.{IsPrepared, deed_answer}
 use Rattle.ssa_answers.specs.declared.fault.Fault.{Fault}
 use Rattle.ssa_turn.specs.TablesBack.{HasTableBack}
 use Rattle.ssa_turn.specs.declared.label.Label.TheVariants.{Update}
@@ -48,7 +50,7 @@ pub returns-in_ok-prepared-in-Ok : goal.returns-in_ok-prepared-in-Ok
 returns-in_ok-prepared-in-Ok c =
     let bench = c.args.self.now in
     let who = string_bytes c.args.who in
-    let to : State → Text → Result State Refusal = λ s n. update s (key_of updates (actor n (part_view c.args.part))) c.args.body c.args.at in
+    let to : State → Text → Result State Refusal = λ s n. operations.update s (key_of updates (actor n (part_view c.args.part) c.args.at)) c.args.body c.args.at in
     let b = c.self.inside in
     let kind = b.schema.kind in
     let valid : model.Bench → Type 0 = λ n. IsValidBody n.schema.kind c.args.body in
@@ -73,7 +75,7 @@ returns-in_ok-prepared-in-Ok c =
     } in
     let on_kind : model.Bench → Type 0 = λ n. IsKept n.schema.kind (present bench.timeline) change in
     let now_kind : model.Bench → Type 0 = λ n. IsValidState n.schema.kind (present bench.timeline) in
-    accepted bench (codes "update") label change p (to (present bench.timeline) who) c.requires.named
+    accepted bench (update (actor who (part_view c.args.part) c.args.at) c.args.body) label refl change p (to (present bench.timeline) who) c.requires.named
     (subst (λ s. IsRecorded s label change p) now_is made)
     (planned-at to (Ok change) before (present bench.timeline) c.as_str.result.now who now_is c.as_str.ensures.value c.in-Ok.ensures.change)
     (subst now_kind c.self.view_is (subst (IsValidState kind) now_is live))
@@ -83,10 +85,10 @@ pub returns-in-Err : goal.returns-in-Err
 returns-in-Err c =
     let bench = c.args.self.now in
     let who = string_bytes c.args.who in
-    let to : State → Text → Result State Refusal = λ s n. update s (key_of updates (actor n (part_view c.args.part))) c.args.body c.args.at in
+    let to : State → Text → Result State Refusal = λ s n. operations.update s (key_of updates (actor n (part_view c.args.part) c.args.at)) c.args.body c.args.at in
     let now_is = c.present-now.ensures ∙ ap (λ n. present n.timeline) c.self.view_is in
-    let tells : Fault → Type 0 = λ f. IsPrepared bench (Err f) (update_answer bench (actor who (part_view c.args.part)) c.args.at c.args.body) (codes "update") in
+    let tells : Fault → Type 0 = λ f. IsPrepared bench (Err f) (deed_answer bench (update (actor who (part_view c.args.part) c.args.at) c.args.body)) (codes "update") in
     subst tells (sym c.from.ensures)
-    (refused-planned bench (codes "update") (Update c.args.at c.args.who c.args.part) c.in-Err.refusal (to (present bench.timeline) who)
+    (refused-planned bench (update (actor who (part_view c.args.part) c.args.at) c.args.body) (Update c.args.at c.args.who c.args.part) refl c.in-Err.refusal (to (present bench.timeline) who)
     (planned-at to (Err c.in-Err.refusal) (state_view c.present-now.result.now) (present bench.timeline) c.as_str.result.now who now_is c.as_str.ensures.value
     c.in-Err.ensures.change))

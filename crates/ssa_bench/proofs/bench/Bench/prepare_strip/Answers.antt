@@ -1,4 +1,5 @@
 use Rattle.std.proofs.Common.{ap, codes, refl, sym, subst, ◌∙◌}
+use Rattle.ssa_model.specs.definitions.Commands as commands
 use Rattle.ssa_model.specs.definitions.History as model
 use Rattle.ssa_model.specs.definitions.History.{present}
 use Rattle.ssa_model.specs.definitions.Operations.{State, strip}
@@ -59,7 +60,7 @@ returns c =
     } in
     let on_kind : model.Bench → Type 0 = λ n. IsKept n.schema.kind (present bench.timeline) change in
     let now_kind : model.Bench → Type 0 = λ n. IsValidState n.schema.kind (present bench.timeline) in
-    planned bench (codes "strip") Strip change p (strip (present bench.timeline)) refl
+    planned bench commands.strip Strip refl change p (strip (present bench.timeline)) refl
     (subst (λ s. IsRecorded s Strip change p) now_is made)
     (subst changes now_is c.in_ok-change.ensures.change)
     (subst now_kind c.self.view_is (subst (IsValidState kind) now_is live))
