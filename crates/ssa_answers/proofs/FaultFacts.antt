@@ -12,7 +12,7 @@ use Rattle.ssa_model.specs.definitions.GivenEntries as entries
 use Rattle.ssa_model.specs.definitions.Faults.{body_fault_code}
 use Rattle.ssa_model.specs.definitions.Replies.{clash_json, with_fault, fault_json, entry_fault_json, fault_reply, paths_json}
 use Rattle.ssa_path.specs.PartMembers.{part_text}
-use Rattle.ssa_path.proofs.PartTexts.{part-closed}
+use Rattle.ssa_path.specs.PartMembers.{part-closed}
 use Rattle.ssa_schema.specs.Finds.{told}
 use Rattle.ssa_schema.specs.declared.body_fault.BodyFault.{BodyFault}
 use Rattle.ssa_answers.specs.Faults.{IsFault, bench_code}

@@ -5,14 +5,17 @@ use Rattle.std.specs.Prelude.{Result, Ok, Err}
 use Rattle.ssa_model.specs.definitions.Limits.{most_bench_bytes}
 use Rattle.ssa_model.specs.definitions.Json.{Json}
 use Rattle.ssa_model.specs.definitions.Schema.{Schema}
-use Rattle.ssa_model.specs.definitions.History.{Bench, appended}
+use Rattle.ssa_model.specs.definitions.History.{Bench, appended, preceded}
 use Rattle.ssa_model.specs.definitions.BenchFile.{IsValidBench}
 use Rattle.ssa_model.specs.definitions.RecordedBench.{HasReadHistory}
-use Rattle.ssa_model.specs.laws.BenchFiles.{schema_in}
-use Rattle.ssa_model.specs.laws.Formats as formats
-use Rattle.ssa_model.specs.laws.Formats.{file_head, file_bench_in, file_fault, FilesAreTaken, TakenIsFile}
-use Rattle.ssa_model.specs.laws.LineByLine.{FilesAreRead, Next, Reader, after_part, after_value, along, at_end, at_last, at_place, ended_with, file_from, later_from, moves_from, next_value, no_value, on_from, preceded, rest_from, shown_in, steps_from, value_then, with_part}
-use Rattle.ssa_model.specs.laws.RecordedBenches.{Counts, MoveFault, no_move_text, record_does_not_fit}
+use Rattle.ssa_model.specs.definitions.BenchOfStates.{schema_in}
+use Rattle.ssa_model.specs.definitions.BenchOfFile as formats
+use Rattle.ssa_model.specs.definitions.BenchOfFile.{file_head, file_bench_in}
+use Rattle.ssa_model.specs.definitions.BenchFaults.{file_fault, MoveFault, no_move_text, record_does_not_fit}
+use Rattle.ssa_model.specs.laws.Formats.{FilesAreTaken, TakenIsFile}
+use Rattle.ssa_model.specs.definitions.NextLines.{Next, at_end, next_value, no_value, value_then}
+use Rattle.ssa_model.specs.laws.LineByLine.{FilesAreRead, Reader, after_part, after_value, along, at_last, at_place, ended_with, file_from, later_from, moves_from, on_from, rest_from, shown_in, steps_from, with_part}
+use Rattle.ssa_model.specs.definitions.BenchOfRecords.{Counts}
 use Rattle.ssa_json.specs.Readings.{readings}
 use Rattle.ssa_file.specs.Heads.{place_view}
 use Rattle.ssa_file.specs.declared.head.StatePlace.{StatePlace}

@@ -2,8 +2,8 @@
 use Rattle.std.proofs.Common.{◌≡◌, ℕ, List, Option, subst}
 use Rattle.std.specs.Prelude.{Result, Ok, Err}
 use Rattle.ssa_model.specs.definitions.Json.{Json}
-use Rattle.ssa_model.specs.laws.Formats as formats
-use Rattle.ssa_model.specs.laws.Formats.{file_head}
+use Rattle.ssa_model.specs.definitions.BenchOfFile as formats
+use Rattle.ssa_model.specs.definitions.BenchOfFile.{file_head}
 use Rattle.ssa_json.specs.View.{view}
 use Rattle.ssa_file.specs.Heads.{head_view}
 use Rattle.ssa_file.specs.declared.head.FileHead.{FileHead}

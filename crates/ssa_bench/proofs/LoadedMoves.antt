@@ -5,9 +5,9 @@ use Rattle.ssa_model.specs.definitions.BenchText.{Format}
 use Rattle.ssa_model.specs.definitions.Json.{Json}
 use Rattle.ssa_model.specs.definitions.Operations.{State}
 use Rattle.ssa_model.specs.definitions.History.{Bench, Label, Step, present}
-use Rattle.ssa_model.specs.laws.BenchFiles.{step_in}
+use Rattle.ssa_model.specs.definitions.BenchOfStates.{step_in}
 use Rattle.ssa_model.specs.laws.LineByLine.{Move, Reader, after_move, after_part, after_value, along, gone_on, moved_by, steps_from, with_value}
-use Rattle.ssa_model.specs.laws.RecordedBenches.{MoveFault, told_value}
+use Rattle.ssa_model.specs.definitions.BenchFaults.{MoveFault, told_value}
 use Rattle.ssa_json.specs.Readings.{readings}
 use Rattle.ssa_json.specs.View.{view}
 use Rattle.ssa_lines.specs.declared.loading.FileLine.{FileLine}

@@ -16,7 +16,7 @@ use Rattle.ssa_model.specs.definitions.Operations.{State}
 use Rattle.ssa_model.specs.definitions.Replies.{label_json}
 use Rattle.ssa_model.specs.definitions.Schema as schemas
 use Rattle.ssa_model.specs.definitions.Schema.{Schema}
-use Rattle.ssa_model.specs.definitions.History.{Bench, Label, applied, updated, stripped, Step, Timeline, appended, forgotten, last_state, past_len, present}
+use Rattle.ssa_model.specs.definitions.History.{Bench, Label, applied, updated, stripped, Step, Timeline, appended, forgotten, last_state, past_len, present, preceded}
 use Rattle.ssa_model.specs.definitions.BenchFile.{IsLabel, IsReadBack, IsStep, IsValidBench}
 use Rattle.ssa_model.specs.definitions.Record.{record_of}
 use Rattle.ssa_model.specs.definitions.RecordReading.{Test, has_members, is_record_shape, HasReadPaths, IsReadState}
@@ -25,9 +25,8 @@ use Rattle.ssa_model.specs.definitions.RecordedBench.{HasReadHistory, HasReadSte
 use Rattle.ssa_model.specs.definitions.Table.{Table}
 use Rattle.ssa_model.specs.definitions.ToldParts.{has_subresource, tells_subresource}
 use Rattle.ssa_model.specs.definitions.Valid.{AllEntries, IsNextStep, IsValidHistory, IsValidState, KeepsOrder, MakesNamed, MakesValid, is_named}
-use Rattle.ssa_model.specs.laws.BenchFiles.{given_if, is_label, is_written_as, label_in, said_label, schema_in}
-use Rattle.ssa_model.specs.laws.LineByLine.{preceded}
-use Rattle.ssa_model.specs.laws.RecordedBenches.{is_label_shape, is_move_shape, MoveFault, no_move_text, record_does_not_fit, told_value, value_move}
+use Rattle.ssa_model.specs.definitions.BenchOfStates.{given_if, is_label, is_written_as, label_in, said_label, schema_in}
+use Rattle.ssa_model.specs.definitions.BenchFaults.{is_label_shape, is_move_shape, MoveFault, no_move_text, record_does_not_fit, told_value, value_move}
 use Rattle.ssa_model.specs.laws.RecordedMoves.{IsReadBackState, LineIsMove, LineOfParts, MisfitIsTold, ShapelessIsNoMove, TellsLines}
 use Rattle.ssa_model.proofs.Given.{given-back}
 use Rattle.ssa_model.proofs.RecordsBack.{record_texts_have_shape}

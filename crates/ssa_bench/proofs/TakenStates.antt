@@ -12,7 +12,7 @@ use Rattle.ssa_model.specs.definitions.History.{Bench, Label, applied, updated, 
 use Rattle.ssa_model.specs.definitions.Json.{Json, member_at}
 use Rattle.ssa_model.specs.definitions.Operations.{State}
 use Rattle.ssa_model.specs.definitions.Valid.{KeepsOrder, is_named}
-use Rattle.ssa_model.specs.laws.BenchFiles.{given_if, is_label, is_written_as, keeps_order, label_in, object_in, said_label, step_in, step_with}
+use Rattle.ssa_model.specs.definitions.BenchOfStates.{given_if, is_label, is_written_as, keeps_order, label_in, object_in, said_label, step_in, step_with}
 use Rattle.ssa_model.proofs.Given.{given-back, and_then-back}
 use Rattle.ssa_model.proofs.TakenOfWritten.{keeps_order-by}
 use Rattle.ssa_json.specs.Readings.{readings}

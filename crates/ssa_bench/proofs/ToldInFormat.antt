@@ -10,8 +10,8 @@ use Rattle.ssa_model.specs.definitions.History.{Bench, Label, Step}
 use Rattle.ssa_model.specs.definitions.Json.{Json, member_at}
 use Rattle.ssa_model.specs.definitions.Operations.{State}
 use Rattle.ssa_model.specs.definitions.Schema.{Schema}
-use Rattle.ssa_model.specs.laws.BenchFiles.{given_if, is_written_as, keeps_order, label_in, lone_in, object_in, step_in, step_with}
-use Rattle.ssa_model.specs.laws.RecordedBenches.{present_in}
+use Rattle.ssa_model.specs.definitions.BenchOfStates.{given_if, is_written_as, keeps_order, label_in, lone_in, object_in, step_in, step_with}
+use Rattle.ssa_model.specs.definitions.BenchOfRecords.{present_in}
 use Rattle.ssa_json.specs.Readings.{readings}
 
 -- with the second test passed the first one decides, without it nothing is given

@@ -4,10 +4,11 @@ use Rattle.ssa_model.specs.definitions.BenchText.{Format}
 use Rattle.ssa_model.specs.definitions.Formats.{IsFile}
 use Rattle.ssa_model.specs.definitions.Json.{Json}
 use Rattle.ssa_model.specs.definitions.History.{Bench}
-use Rattle.ssa_model.specs.laws.Formats as formats
-use Rattle.ssa_model.specs.laws.Formats.{file_head, file_fault}
-use Rattle.ssa_model.specs.laws.LineByLine.{Move, Reader, along, at_end, ended_with, next_value, steps_from, with_part, with_value}
-use Rattle.ssa_model.specs.laws.RecordedBenches.{MoveFault, no_move_text, record_does_not_fit}
+use Rattle.ssa_model.specs.definitions.BenchOfFile as formats
+use Rattle.ssa_model.specs.definitions.BenchOfFile.{file_head}
+use Rattle.ssa_model.specs.definitions.BenchFaults.{file_fault, MoveFault, no_move_text, record_does_not_fit}
+use Rattle.ssa_model.specs.definitions.NextLines.{at_end, next_value}
+use Rattle.ssa_model.specs.laws.LineByLine.{Move, Reader, along, ended_with, steps_from, with_part, with_value}
 use Rattle.ssa_json.specs.Readings.{readings}
 use Rattle.ssa_file.specs.Heads.{head_view}
 use Rattle.ssa_file.specs.declared.head.FileHead.{FileHead}

@@ -7,11 +7,11 @@ use Rattle.ssa_model.specs.definitions.History.{Bench, Label, present}
 use Rattle.ssa_model.specs.definitions.Takes.{Takes}
 use Rattle.ssa_model.specs.definitions.Valid.{is_named}
 use Rattle.ssa_model.specs.definitions.History as history
-use Rattle.ssa_model.specs.laws.BenchFiles.{given_if, said_label, step_in}
-use Rattle.ssa_model.specs.laws.Formats as formats
-use Rattle.ssa_model.specs.laws.Formats.{file_head}
+use Rattle.ssa_model.specs.definitions.BenchOfStates.{given_if, said_label, step_in}
+use Rattle.ssa_model.specs.definitions.BenchOfFile as formats
+use Rattle.ssa_model.specs.definitions.BenchOfFile.{file_head}
 use Rattle.ssa_model.specs.laws.LineByLine.{Move, moved_by, gone_on}
-use Rattle.ssa_model.specs.laws.RecordedBenches.{is_label_shape, MoveFault, no_move_text, record_does_not_fit, told_value}
+use Rattle.ssa_model.specs.definitions.BenchFaults.{is_label_shape, MoveFault, no_move_text, record_does_not_fit, told_value}
 use Rattle.ssa_json.specs.Readings.{readings}
 use Rattle.ssa_file.specs.declared.head.FileHead.{FileHead}
 use Rattle.ssa_file.specs.Heads.{head_view}

@@ -1,10 +1,10 @@
 //! A bench is taken from its file, line by line.
 ghost use Rattle.std.specs.Prelude.{◌≡◌, ◌≤◌, ◌<◌, ◌+◌, true, Err, IfOk, OnOk, length};
 ghost use Rattle.ssa_model.specs.definitions.Answers.{lone_state};
-ghost use Rattle.ssa_model.specs.definitions.History.{appended, past_len};
+ghost use Rattle.ssa_model.specs.definitions.History.{appended, past_len, preceded};
 ghost use Rattle.ssa_model.specs.definitions.Json.{compact};
-ghost use Rattle.ssa_model.specs.laws.BenchFiles.{schema_in};
-ghost use Rattle.ssa_model.specs.laws.LineByLine.{later_from, moves_from, preceded, rest_from, shown_in};
+ghost use Rattle.ssa_model.specs.definitions.BenchOfStates.{schema_in};
+ghost use Rattle.ssa_model.specs.laws.LineByLine.{later_from, moves_from, rest_from, shown_in};
 ghost use Rattle.ssa_json.specs.Readings.{readings};
 ghost use Rattle.ssa_json.specs.View.{view};
 ghost use Rattle.ssa_json.specs.Writable.{IsOfProgram};

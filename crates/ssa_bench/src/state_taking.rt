@@ -5,7 +5,7 @@ ghost use Rattle.ssa_model.specs.definitions.Commands.{value_in};
 ghost use Rattle.ssa_model.specs.definitions.Formats.{is_main_label, is_main_state};
 ghost use Rattle.ssa_model.specs.definitions.Json.{member_at};
 ghost use Rattle.ssa_model.specs.definitions.Valid.{IsValidState};
-ghost use Rattle.ssa_model.specs.laws.BenchFiles.{label_in, object_in};
+ghost use Rattle.ssa_model.specs.definitions.BenchOfStates.{label_in, object_in};
 ghost use Rattle.ssa_json.specs.Readings.{readings};
 ghost use Rattle.ssa_json.specs.View.{view};
 ghost use Rattle.ssa_merge.specs.States.{state_view};

@@ -2,7 +2,7 @@
 ghost use Rattle.std.specs.List.{list_all};
 ghost use Rattle.std.specs.Prelude.{◌≡◌, IfOk, option_map};
 ghost use Rattle.ssa_model.specs.definitions.Formats.{is_main, is_main_label};
-ghost use Rattle.ssa_model.specs.laws.BenchFiles.{schema_in};
+ghost use Rattle.ssa_model.specs.definitions.BenchOfStates.{schema_in};
 ghost use Rattle.ssa_json.specs.View.{view};
 ghost use Rattle.ssa_path.specs.Subresources.{part_view};
 ghost use Rattle.ssa_turn.specs.Histories.{label_view};

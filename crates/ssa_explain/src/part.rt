@@ -2,10 +2,10 @@
 
 use ssa_json::value::{Json, Scalar};
 use ssa_path::element::Elem;
-use ssa_path::keys::Keys;
+use ssa_path::keys::SharedKeys;
 
 // Whether the item has these key fields.
-fn has_keys(item: &Json, keys: &Keys) -> bool {
+fn has_keys(item: &Json, keys: &SharedKeys) -> bool {
     for (name, value) in keys.members() {
         match item.member(name.as_str()) {
             Some(Json::Scalar(found)) => {

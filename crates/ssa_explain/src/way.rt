@@ -3,7 +3,7 @@
 use ssa_json::value::{Json, Scalar};
 use ssa_json::write::push_quoted;
 use ssa_path::element::Elem;
-use ssa_path::keys::Keys;
+use ssa_path::keys::SharedKeys;
 use std::alloc::{AllocError, Global};
 
 // Whether a name is told as it is: it has letters, digits, `-`, `_` and `/` alone, and one at least.
@@ -61,7 +61,7 @@ pub fn push_members(text: &mut Vec<u8>, names: &[&str]) -> Result<(), AllocError
 }
 
 // Appends the step to an item by its key fields: `[name="a",port=80]`.
-fn push_keys(alloc: Global, text: &mut Vec<u8>, keys: &Keys) -> Result<(), AllocError> {
+fn push_keys(alloc: Global, text: &mut Vec<u8>, keys: &SharedKeys) -> Result<(), AllocError> {
     let mut before = b'[';
     for (name, value) in keys.members() {
         text.push(before)?;

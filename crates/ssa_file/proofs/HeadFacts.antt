@@ -4,7 +4,7 @@ use Rattle.std.specs.Prelude.{◌&&◌, Option, codes, nat_lt, nat_le, option_an
 use Rattle.ssa_model.specs.definitions.BenchText.{head_of}
 use Rattle.ssa_model.specs.definitions.Json.{Json, member_at}
 use Rattle.ssa_model.specs.definitions.Limits.{most_past}
-use Rattle.ssa_model.specs.laws.BenchFiles.{Head, given_if, head_in, is_written_as, number_in}
+use Rattle.ssa_model.specs.definitions.BenchOfStates.{Head, given_if, head_in, is_written_as, number_in}
 use Rattle.ssa_model.proofs.Basics.{and-false}
 
 abbrev head : ℕ → ℕ → Head

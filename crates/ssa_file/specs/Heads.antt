@@ -3,10 +3,10 @@ use Rattle.std.specs.Prelude.{◌<◌, ◌≤◌, ◌+◌, ◌&&◌, ℕ, Option
 use Rattle.ssa_model.specs.definitions.BenchText.{Format}
 use Rattle.ssa_model.specs.definitions.Json.{Json}
 use Rattle.ssa_model.specs.definitions.Limits.{most_past}
-use Rattle.ssa_model.specs.laws.BenchFiles as states
-use Rattle.ssa_model.specs.laws.BenchFiles.{given_if}
-use Rattle.ssa_model.specs.laws.RecordedBenches as records
-use Rattle.ssa_model.specs.laws.Formats as formats
+use Rattle.ssa_model.specs.definitions.BenchOfStates as states
+use Rattle.ssa_model.specs.definitions.BenchOfStates.{given_if}
+use Rattle.ssa_model.specs.definitions.BenchOfRecords as records
+use Rattle.ssa_model.specs.definitions.BenchOfFile as formats
 use Rattle.ssa_file.specs.Recording.{format_view}
 use Rattle.ssa_file.specs.declared.head.StatePlace.{StatePlace}
 use Rattle.ssa_file.specs.declared.head.RecordCounts.{RecordCounts}

@@ -3,9 +3,9 @@ ghost use Rattle.std.specs.Prelude.{◌≡◌, ◌≤◌, ◌<◌, ◌+◌, ◌^
 ghost use Rattle.ssa_model.specs.definitions.BenchText.{head_of};
 ghost use Rattle.ssa_model.specs.definitions.Json.{member_at};
 ghost use Rattle.ssa_model.specs.definitions.Limits.{most_past};
-ghost use Rattle.ssa_model.specs.laws.BenchFiles.{given_if, head_in, is_written_as, number_in};
-ghost use Rattle.ssa_model.specs.laws.Formats.{file_head};
-ghost use Rattle.ssa_model.specs.laws.RecordedBenches.{counts_in, format_in, record_format};
+ghost use Rattle.ssa_model.specs.definitions.BenchOfStates.{given_if, head_in, is_written_as, number_in};
+ghost use Rattle.ssa_model.specs.definitions.BenchOfFile.{file_head};
+ghost use Rattle.ssa_model.specs.definitions.BenchOfRecords.{counts_in, format_in, record_format};
 ghost use Rattle.ssa_json.specs.View.{view};
 ghost use Rattle.ssa_file.specs.Heads.{IsFew, counts_view, depth_within, head_view, place_view};
 ghost use Rattle.ssa_file.specs.Recording.{format_view};

@@ -1,4 +1,5 @@
 pub mod View
+pub mod Views
 pub mod Reading
 pub mod Readings
 pub mod Written

@@ -9,8 +9,8 @@ use Rattle.std.specs.Prelude.{Vec}
 use Rattle.std.specs.declared.alloc.Global.{Global}
 use Rattle.ssa_model.specs.definitions.Json.{Text, compact, same_text}
 use Rattle.ssa_model.specs.definitions.Lines.{line_feed}
-use Rattle.ssa_model.specs.laws.BenchFiles.{spelled_value}
-use Rattle.ssa_model.specs.laws.LineByLine.{next_value, value_then}
+use Rattle.ssa_model.specs.definitions.BenchOfStates.{spelled_value}
+use Rattle.ssa_model.specs.definitions.NextLines.{next_value, value_then}
 use Rattle.ssa_model.proofs.FirstValues.{spelled-found}
 use Rattle.ssa_model.proofs.NextValues.{next-beyond, next-of-line, next-refused, next-unended}
 use Rattle.ssa_model.proofs.Tables.{same_text-true}

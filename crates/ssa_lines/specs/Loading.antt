@@ -3,8 +3,8 @@ use Rattle.std.specs.Prelude.{◌≡◌, ℕ, List, [], Option, Some, None, Resu
 use Rattle.ssa_model.specs.definitions.Json.{Text, compact}
 use Rattle.ssa_model.specs.definitions.Faults as code
 use Rattle.ssa_model.specs.definitions.Faults.{Code}
-use Rattle.ssa_model.specs.laws.BenchFiles.{spelled_value}
-use Rattle.ssa_model.specs.laws.LineByLine.{at_end, no_value, value_then, next_value}
+use Rattle.ssa_model.specs.definitions.BenchOfStates.{spelled_value}
+use Rattle.ssa_model.specs.definitions.NextLines.{at_end, no_value, value_then, next_value}
 use Rattle.ssa_json.specs.Readings.{readings}
 use Rattle.ssa_json.specs.View.{view}
 use Rattle.ssa_lines.specs.declared.loading.FileLine.{FileLine}

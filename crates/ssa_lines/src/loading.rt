@@ -1,7 +1,7 @@
 //! The values of a bench file, read line by line.
 ghost use Rattle.std.specs.Prelude.{◌≡◌, ◌≢◌, ◌≤◌, ◌+◌, true, false, Err, IfOk, IfSome, None};
 ghost use Rattle.ssa_model.specs.definitions.Json.{compact, same_text};
-ghost use Rattle.ssa_model.specs.laws.BenchFiles.{spelled_value};
+ghost use Rattle.ssa_model.specs.definitions.BenchOfStates.{spelled_value};
 ghost use Rattle.ssa_json.specs.FaultCodes.{code_view};
 ghost use Rattle.ssa_json.specs.Readings.{readings};
 ghost use Rattle.ssa_json.specs.View.{view};

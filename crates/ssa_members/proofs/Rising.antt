@@ -1,17 +1,16 @@
 -- Names that rise, and still do where one comes or goes.
-use Rattle.std.proofs.Common.{◌≡◌, ℕ, zero, suc, ◌+◌, ◌<◌, List, [], ◌∷◌, length, get_or, Less, Global, Bool, true, false, bytes_eq, cond, not, refl, sym, ap, subst, ◌∙◌, arith, string_bytes, string_cmp}
+use Rattle.std.proofs.Common.{◌≡◌, ℕ, zero, suc, ◌+◌, ◌<◌, List, [], ◌∷◌, length, get_or, Less, Global, Bool, true, false, refl, sym, ap, subst, ◌∙◌, arith, string_bytes, string_cmp}
 use Rattle.std.proofs.lemmas.Cmp.{nat_list_cmp_total}
 use Rattle.std.proofs.lemmas.List.{get_or-map}
-use Rattle.std.proofs.lemmas.List.Kept.{IsStrictlySortedBy-filter}
 use Rattle.std.proofs.lemmas.Map.Entries.{length-keys_of}
 use Rattle.std.proofs.lemmas.Map.Keys.{sorted_from_all_adjacent}
 use Rattle.std.specs.Cmp.{IsTotalOrder}
-use Rattle.std.specs.List.{AllByRecursion, filter, insert, list_any, remove, slice_set}
+use Rattle.std.specs.List.{AllByRecursion, insert, remove, slice_set}
 use Rattle.std.specs.List.Sorted.{IsStrictlySortedBy}
 use Rattle.std.specs.Map.{keys_of}
 use Rattle.std.specs.Ordering.{ordering_reverse}
 use Rattle.std.specs.Prelude.{if◌then◌else◌}
-use Rattle.ssa_members.specs.Members.{Name, left_without, text_cmp, IsRising, IsGapFor}
+use Rattle.ssa_members.specs.Members.{Name, text_cmp, IsRising, IsGapFor}
 
 pub name_total : IsTotalOrder (string_cmp {Z = Global})
 name_total = record {
@@ -70,21 +69,6 @@ module _ {X : Type 0} where
   rising-taken-out [] (suc i) rise = tt
   rising-taken-out (e ∷ es) zero rise = rise.1
   rising-taken-out (e ∷ es) (suc i) rise = (all-taken-out (λ y. string_cmp e.0 y ≡ Less) es i rise.0, rising-taken-out es i rise.1)
-
-  names-left : (p : Name → Bool) (es : List (Name × X)) → keys_of (filter (λ e. p e.0) es) ≡ filter p (keys_of es)
-  names-left p [] = refl
-  names-left p (e ∷ es) = by (p e.0) (names-left p es)
-    where
-      by : (b : Bool) → keys_of (filter (λ e. p e.0) es) ≡ filter p (keys_of es)
-          → keys_of (cond b (e ∷ filter (λ e. p e.0) es) (filter (λ e. p e.0) es)) ≡ cond b (e.0 ∷ filter p (keys_of es)) (filter p (keys_of es))
-      by true rest = ap (λ l. e.0 ∷ l) rest
-      by false rest = rest
-
-  -- names rise where some are left out
-  pub rising-left : (ns : List (List ℕ)) (es : List (Name × X)) → IsRising es → IsRising (left_without ns es)
-  rising-left ns es rise =
-      let stays : Name → Bool = λ k. not (list_any (bytes_eq (string_bytes k)) ns) in
-      subst (IsStrictlySortedBy string_cmp) (sym (names-left stays es)) (IsStrictlySortedBy-filter string_cmp stays (keys_of es) rise)
 
   names-stay : (es : List (Name × X)) (i : ℕ) (v : X) (d : Name × X) → i < length es → keys_of (slice_set es i ((get_or es i d).0, v)) ≡ keys_of es
   names-stay [] i v d lt = absurd (omega arith)

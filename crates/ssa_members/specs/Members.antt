@@ -1,9 +1,9 @@
 -- Values under names, in the order of the names' bytes.
 use denote.RattleType.{RattleType}
-use Rattle.std.specs.Prelude.{◌≡◌, ℕ, ◌<◌, ◌≤◌, List, length, String, Option, None, Result, MatchResult, bytes_eq, not, string_bytes, string_cmp}
+use Rattle.std.specs.Prelude.{◌≡◌, ℕ, ◌<◌, ◌≤◌, List, length, String, Option, None, Result, MatchResult, string_bytes, string_cmp}
 use Rattle.std.specs.Cmp.Lexicographic.{slice_cmp}
 use Rattle.std.specs.Coded.{Coded, code_by, coded_list, coded×}
-use Rattle.std.specs.List.{filter, list_any, slice_index_or}
+use Rattle.std.specs.List.{slice_index_or}
 use Rattle.std.specs.List.Sorted.{IsStrictlySortedBy}
 use Rattle.std.specs.Map.{keys_of, lookup, update_all}
 use Rattle.std.specs.BTreeMap.{is_at}
@@ -38,10 +38,6 @@ module _ {X : Type 0} where
   -- the value under the name of these bytes
   abbrev pub get : Members X → List ℕ → Option X
   get m bs = lookup (is_at (text_cmp bs)) m.entries
-
-  -- what is left without the names of these bytes
-  abbrev pub left_without : List (List ℕ) → List (Name × X) → List (Name × X)
-  left_without ns es = filter (λ e. not (list_any (bytes_eq (string_bytes e.0)) ns)) es
 
   -- the name at this place has these bytes
   pub record IsNameAt (bs : List ℕ) (es : List (Name × X)) (i : ℕ) : Type 0 where

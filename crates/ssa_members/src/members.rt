@@ -1,12 +1,12 @@
 //! Values under names, in a vector that is ordered by the names.
 ghost use Rattle.std.specs.Prelude.{◌≡◌, ◌<◌, ◌↔◌, [], ℕ, length, IfOk, IfErr, IfSome, IsTrue, OnErr, OnOk, MatchOption, Some, None, option_copied};
 ghost use Rattle.std.specs.BTreeMap.{insert_entry, is_at};
-ghost use Rattle.std.specs.List.{list_any, remove, slice_index_or};
+ghost use Rattle.std.specs.List.{remove, slice_index_or};
 ghost use Rattle.std.specs.Map.{lookup, remove_entry, set_value};
 ghost use Rattle.std.specs.Cmp.Lexicographic.{slice_cmp};
 ghost use Rattle.std.specs.Ordering.{nat_cmp};
-ghost use Rattle.std.specs.Prelude.{bytes_eq, map, string_bytes, string_cmp};
-ghost use Rattle.ssa_members.specs.Members.{get, left_without, text_cmp, IsMadeOf, IsNameAt, IsPlaceOf, IsRising};
+ghost use Rattle.std.specs.Prelude.{bytes_eq, string_bytes, string_cmp};
+ghost use Rattle.ssa_members.specs.Members.{get, text_cmp, IsMadeOf, IsNameAt, IsPlaceOf, IsRising};
 
 use crate::name::Name;
 use crate::words::are_same;
@@ -118,19 +118,6 @@ fn take_entry<V>(entries: &mut Vec<(Name, V)>, i: usize) -> (Name, V)
         unreachable!("the place is inside");
     };
     last
-}
-
-// Whether the name is one of these.
-#[inline(always)]
-fn is_among(name: &str, names: &[&str]) -> bool
-    ensures { result ≡ list_any (bytes_eq name.now) (map (λ n. n.now) names.now) }
-{
-    for other in names {
-        if is_one_name(name, *other) {
-            return true;
-        }
-    }
-    false
 }
 
 impl<V> Members<V> {
@@ -262,16 +249,6 @@ impl<V> Members<V> {
             }
             None => None,
         }
-    }
-
-    /// Takes out the values under these names, in one pass over all.
-    pub fn remove_all(&mut self, names: &[&str])
-    where
-        V: Drop,
-        ensures { self.new.entries ≡ left_without (map (λ n. n.now) names.now) self.old.entries }
-    {
-        self.entries
-            .retain(|entry| !is_among(entry.0.as_str(), names));
     }
 
     /// Puts a value in the place of the one under a name, which it gives. Where there is none, the value

@@ -3,7 +3,7 @@ ghost use Rattle.std.specs.Prelude.{◌≡◌, ◌≤◌, true, length};
 ghost use Rattle.std.specs.Cmp.Lexicographic.{pointwise};
 ghost use Rattle.ssa_model.specs.definitions.Table.{same_manager};
 ghost use Rattle.ssa_model.specs.definitions.Valid.{shared_managers};
-ghost use Rattle.ssa_model.specs.laws.BenchFiles.{keeps_order};
+ghost use Rattle.ssa_model.specs.definitions.BenchOfStates.{keeps_order};
 ghost use Rattle.ssa_merge.specs.Managers.{table_view};
 ghost use Rattle.ssa_merge.specs.Tables.{starts_shared};
 

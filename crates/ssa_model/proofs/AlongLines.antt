@@ -8,9 +8,11 @@ use Rattle.ssa_model.specs.definitions.Readings.{Readings}
 use Rattle.ssa_model.specs.definitions.History.{Label, Timeline, Bench, present, with_timeline}
 use Rattle.ssa_model.specs.definitions.BenchText.{Format}
 use Rattle.ssa_model.specs.definitions.Formats.{can_tell_line}
-use Rattle.ssa_model.specs.laws.BenchFiles.{spelled_value, values_of}
-use Rattle.ssa_model.specs.laws.RecordedBenches.{move_in, told_move, MoveFault, no_move_text, refused_fault, value_move, told_value, lines_fault}
-use Rattle.ssa_model.specs.laws.LineByLine.{Next, at_end, no_value, value_then, next_value, Reader, after_value, after_part, with_part, Move, moved_by, after_move, along}
+use Rattle.ssa_model.specs.definitions.BenchOfStates.{spelled_value, values_of}
+use Rattle.ssa_model.specs.definitions.BenchOfRecords.{move_in, told_move}
+use Rattle.ssa_model.specs.definitions.BenchFaults.{MoveFault, no_move_text, refused_fault, value_move, told_value, lines_fault}
+use Rattle.ssa_model.specs.definitions.NextLines.{Next, at_end, no_value, value_then, next_value}
+use Rattle.ssa_model.specs.laws.LineByLine.{Reader, after_value, after_part, with_part, Move, moved_by, after_move, along}
 use Rattle.ssa_model.proofs.Given.{and_then-back, map-back}
 use Rattle.ssa_model.proofs.NextValues.{lines_left, no-lines, no-values, HasNext, Stands, stands, next-values, next-counts, lines-of-values, nil-cons, same-first, same-tail}
 

@@ -4,7 +4,7 @@ use Rattle.std.specs.Prelude.{if◌then◌else◌, Result, Ok, Err}
 use Rattle.ssa_model.specs.definitions.Json.{Text, Json, compact, same_text}
 use Rattle.ssa_model.specs.definitions.Readings.{Readings, ReadFault}
 use Rattle.ssa_model.specs.definitions.Lines.{line_feed, whole_lines, unfinished_line, HasNoLineFeed}
-use Rattle.ssa_model.specs.laws.BenchFiles.{ended_lines, text_lines, spelled_value, spelled_values, values_of}
+use Rattle.ssa_model.specs.definitions.BenchOfStates.{ended_lines, text_lines, spelled_value, spelled_values, values_of}
 use Rattle.ssa_model.proofs.LinesFacts.{split_lines-first}
 
 -- ---- the value of a line

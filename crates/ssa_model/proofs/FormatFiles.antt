@@ -12,9 +12,11 @@ use Rattle.ssa_model.specs.definitions.BenchText.{Format, states, records, parts
 use Rattle.ssa_model.specs.definitions.BenchFile.{IsSpelled, IsValidBench}
 use Rattle.ssa_model.specs.definitions.RecordedBench.{record_head, recorded_values, HasReadHistory}
 use Rattle.ssa_model.specs.definitions.Formats.{file_values, CanTell, IsFile}
-use Rattle.ssa_model.specs.laws.BenchFiles.{Head, head_in, schema_in, lone_in, steps_in, with_steps, text_lines, spelled_value, spelled_values, values_of, values_bench, bench_in}
-use Rattle.ssa_model.specs.laws.RecordedBenches.{Counts, IsOfRecords, counts_in, recorded_bench, recorded_bench_in}
-use Rattle.ssa_model.specs.laws.Formats.{FileHead, of_states, of_records, head_format, either_head, file_head, head_bench, file_bench, file_bench_in, FilesAreTaken, TakenIsFile}
+use Rattle.ssa_model.specs.definitions.BenchOfStates.{Head, head_in, schema_in, lone_in, steps_in, with_steps, text_lines, spelled_value, spelled_values, values_of, values_bench, bench_in}
+use Rattle.ssa_model.specs.definitions.BenchOfRecords.{Counts, counts_in, recorded_bench, recorded_bench_in}
+use Rattle.ssa_model.specs.laws.RecordedBenches.{IsOfRecords}
+use Rattle.ssa_model.specs.definitions.BenchOfFile.{FileHead, of_states, of_records, head_format, either_head, file_head, head_bench, file_bench, file_bench_in}
+use Rattle.ssa_model.specs.laws.Formats.{FilesAreTaken, TakenIsFile}
 use Rattle.ssa_model.proofs.CompactTexts.{compact-injective}
 use Rattle.ssa_model.proofs.Given.{and_then-back, map-back, tested-back}
 use Rattle.ssa_model.proofs.NextValues.{same-first, same-tail}

@@ -2,7 +2,7 @@
 use Rattle.std.proofs.Common.{◌≡◌, Bool, true, false, Option, Some, None, option_map, option_and_then, refl}
 use Rattle.std.proofs.lemmas.Option.{same_Some, none-some}
 use Rattle.std.specs.Prelude.{if◌then◌else◌}
-use Rattle.ssa_model.specs.laws.BenchFiles.{given_if}
+use Rattle.ssa_model.specs.definitions.BenchOfStates.{given_if}
 
 -- what is given is the value, and the test holds
 pub given-back : {X : Type 0} (b : Bool) (x y : X) → given_if b x ≡ Some y → (b ≡ true) × (x ≡ y)

@@ -6,10 +6,12 @@ use Rattle.ssa_model.specs.definitions.Limits.{most_bench_bytes}
 use Rattle.ssa_model.specs.definitions.Json.{Text, Json}
 use Rattle.ssa_model.specs.definitions.Readings.{Readings}
 use Rattle.ssa_model.specs.definitions.History.{Bench}
-use Rattle.ssa_model.specs.laws.BenchFiles.{Head, head_in, schema_in, spelled_value, values_of, bench_in}
-use Rattle.ssa_model.specs.laws.RecordedBenches.{Counts, counts_in, MoveFault, no_move_text, recorded_bench_in}
-use Rattle.ssa_model.specs.laws.Formats.{FileHead, of_states, of_records, file_head, head_bench, file_bench, file_bench_in, head_fault, first_head, lines_file_fault, file_fault}
-use Rattle.ssa_model.specs.laws.LineByLine.{Next, at_end, no_value, value_then, Reader, next_value, after_value, after_part, with_part, shown_in, rest_from, FilesAreRead}
+use Rattle.ssa_model.specs.definitions.BenchOfStates.{Head, head_in, schema_in, spelled_value, values_of, bench_in}
+use Rattle.ssa_model.specs.definitions.BenchOfRecords.{Counts, counts_in, recorded_bench_in}
+use Rattle.ssa_model.specs.definitions.BenchFaults.{MoveFault, no_move_text, head_fault, first_head, lines_file_fault, file_fault}
+use Rattle.ssa_model.specs.definitions.BenchOfFile.{FileHead, of_states, of_records, file_head, head_bench, file_bench, file_bench_in}
+use Rattle.ssa_model.specs.definitions.NextLines.{Next, at_end, no_value, value_then, next_value}
+use Rattle.ssa_model.specs.laws.LineByLine.{Reader, after_value, after_part, with_part, shown_in, rest_from, FilesAreRead}
 use Rattle.ssa_model.proofs.AlongLines.{part_of}
 use Rattle.ssa_model.proofs.FormatFiles.{HasHead, by_states, by_records, has-head, in-format}
 use Rattle.ssa_model.proofs.Given.{and_then-back, tested-back}

@@ -5,8 +5,8 @@ use Rattle.std.specs.Prelude.{if◌then◌else◌, nat_lt}
 use Rattle.ssa_model.specs.definitions.Json.{Text, Json}
 use Rattle.ssa_model.specs.definitions.Readings.{Readings}
 use Rattle.ssa_model.specs.definitions.Lines.{line_feed, ended}
-use Rattle.ssa_model.specs.laws.BenchFiles.{spelled_value, spelled_values, values_of}
-use Rattle.ssa_model.specs.laws.RecordedBenches.{lines_within}
+use Rattle.ssa_model.specs.definitions.BenchOfStates.{spelled_value, spelled_values, values_of}
+use Rattle.ssa_model.specs.definitions.BenchFaults.{lines_within}
 use Rattle.ssa_model.proofs.FirstValues.{values-first}
 use Rattle.ssa_model.proofs.LinesFacts.{HaveNoLineFeed}
 

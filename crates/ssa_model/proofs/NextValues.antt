@@ -8,9 +8,9 @@ use Rattle.std.specs.Prelude.{if◌then◌else◌, nat_lt}
 use Rattle.ssa_model.specs.definitions.Json.{Text, Json}
 use Rattle.ssa_model.specs.definitions.Lines.{line_feed, split_lines, with_first, whole_lines, unfinished_line, HasNoLineFeed}
 use Rattle.ssa_model.specs.definitions.Readings.{Readings}
-use Rattle.ssa_model.specs.laws.BenchFiles.{text_lines, spelled_value, spelled_values, values_of}
-use Rattle.ssa_model.specs.laws.RecordedBenches.{lines_within}
-use Rattle.ssa_model.specs.laws.LineByLine.{Next, at_end, no_value, value_then, first_value, next_value}
+use Rattle.ssa_model.specs.definitions.BenchOfStates.{text_lines, spelled_value, spelled_values, values_of}
+use Rattle.ssa_model.specs.definitions.BenchFaults.{lines_within}
+use Rattle.ssa_model.specs.definitions.NextLines.{Next, at_end, no_value, value_then, first_value, next_value}
 use Rattle.ssa_model.proofs.FirstValues.{values-found}
 use Rattle.ssa_model.proofs.Given.{and_then-back, map-back}
 use Rattle.ssa_model.proofs.LinesFacts.{split_lines-first, split_lines-plain}

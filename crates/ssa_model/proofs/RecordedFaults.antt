@@ -19,8 +19,10 @@ use Rattle.ssa_model.specs.definitions.RecordText.{record_json}
 use Rattle.ssa_model.specs.definitions.RecordReading.{is_record_shape}
 use Rattle.ssa_model.specs.definitions.BenchText.{Format}
 use Rattle.ssa_model.specs.definitions.Formats.{can_tell_line}
-use Rattle.ssa_model.specs.laws.BenchFiles.{ended_lines, text_lines, spelled_value, spelled_values, values_of, is_written_as, schema_in, is_label}
-use Rattle.ssa_model.specs.laws.RecordedBenches.{Counts, counts_in, present_in, move_in, told_move, past_in, future_in, with_moves, lines_bench, recorded_bench, recorded_bench_in, MoveFault, no_move_text, record_does_not_fit, is_label_shape, refused_fault, value_move, told_value, line_move, lines_fault, lines_within, moves_fault, opening_in, texts_fault, recorded_fault, MisfitIsRefused, MovesHaveShape}
+use Rattle.ssa_model.specs.definitions.BenchOfStates.{ended_lines, text_lines, spelled_value, spelled_values, values_of, is_written_as, schema_in, is_label}
+use Rattle.ssa_model.specs.definitions.BenchOfRecords.{Counts, counts_in, present_in, move_in, told_move, past_in, future_in, with_moves, lines_bench, recorded_bench, recorded_bench_in}
+use Rattle.ssa_model.specs.definitions.BenchFaults.{MoveFault, no_move_text, record_does_not_fit, is_label_shape, refused_fault, value_move, told_value, line_move, lines_fault, lines_within, moves_fault, opening_in, texts_fault, recorded_fault}
+use Rattle.ssa_model.specs.laws.RecordedBenches.{MisfitIsRefused, MovesHaveShape}
 use Rattle.ssa_model.proofs.Given.{and_then-back, map-back}
 use Rattle.ssa_model.proofs.LinesRead.{lines_within-all}
 use Rattle.ssa_model.proofs.RecordsBack.{record_texts_have_shape}

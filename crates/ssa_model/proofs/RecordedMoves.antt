@@ -27,8 +27,9 @@ use Rattle.ssa_model.specs.definitions.Carry.{carry}
 use Rattle.ssa_model.specs.definitions.RecordText.{record_json}
 use Rattle.ssa_model.specs.definitions.RecordReading.{MemberShape, must_have, are_members_of, is_record_shape, record_in, has_read_paths, IsReadState}
 use Rattle.ssa_model.specs.definitions.RecordedBench.{record_line}
-use Rattle.ssa_model.specs.laws.BenchFiles.{given_if, is_written_as, said_label, is_label, label_in, keeps_order}
-use Rattle.ssa_model.specs.laws.RecordedBenches.{led_state, is_move, move_to, move_in, MoveFault, no_move_text, record_does_not_fit, is_label_shape, is_move_shape, refused_fault, value_move}
+use Rattle.ssa_model.specs.definitions.BenchOfStates.{given_if, is_written_as, said_label, is_label, label_in, keeps_order}
+use Rattle.ssa_model.specs.definitions.BenchOfRecords.{led_state, is_move, move_to, move_in}
+use Rattle.ssa_model.specs.definitions.BenchFaults.{MoveFault, no_move_text, record_does_not_fit, is_label_shape, is_move_shape, refused_fault, value_move}
 use Rattle.ssa_model.specs.laws.RecordedMoves.{IsReadBackState, TellsLines, IsRecordLineOf, LineIsMove, ShapelessIsNoMove, MisfitIsTold, LineOfParts}
 use Rattle.ssa_model.proofs.CompactTexts.{compact-injective}
 use Rattle.ssa_model.proofs.Given.{given-back, and_then-back}

@@ -19,9 +19,10 @@ use Rattle.ssa_model.specs.definitions.Valid.{MakesValid, KeepsOrder, KeepsOrder
 use Rattle.ssa_model.specs.definitions.BenchFile.{IsLabel, IsStep, IsSpelled, IsValidBench}
 use Rattle.ssa_model.specs.definitions.RecordedBench.{record_head, record_line, past_lines, future_lines, past_steps, future_steps, recorded_values, recorded_text, HasReadStep, HasReadHistory}
 use Rattle.ssa_model.specs.definitions.Formats.{can_tell_depth, can_tell_state, can_tell_line, CanTellStep, CanTell}
-use Rattle.ssa_model.specs.laws.BenchFiles.{text_lines, spelled_values, given_if, is_written_as, schema_in}
+use Rattle.ssa_model.specs.definitions.BenchOfStates.{text_lines, spelled_values, given_if, is_written_as, schema_in}
 use Rattle.ssa_model.specs.laws.RecordedMoves.{IsReadBackState, TellsLines}
-use Rattle.ssa_model.specs.laws.RecordedBenches.{Counts, IsOfRecords, is_head, counts_in, present_in, move_in, told_move, past_in, future_in, with_moves, lines_bench, recorded_bench, recorded_bench_in, RecordedFilesAreTaken}
+use Rattle.ssa_model.specs.definitions.BenchOfRecords.{Counts, is_head, counts_in, present_in, move_in, told_move, past_in, future_in, with_moves, lines_bench, recorded_bench, recorded_bench_in}
+use Rattle.ssa_model.specs.laws.RecordedBenches.{IsOfRecords, RecordedFilesAreTaken}
 use Rattle.ssa_model.proofs.RecordedMoves.{move-back}
 use Rattle.ssa_model.proofs.ToldParts.{told-line}
 use Rattle.ssa_model.proofs.SpelledValues.{text_lines-of, spelled_values-of}

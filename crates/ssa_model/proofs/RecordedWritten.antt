@@ -19,8 +19,9 @@ use Rattle.ssa_model.specs.definitions.Lines.{ended}
 use Rattle.ssa_model.specs.definitions.BenchText.{Format, records, parts, depths, whole_object}
 use Rattle.ssa_model.specs.definitions.RecordedBench.{record_head, record_line, past_lines, future_lines, recorded_values}
 use Rattle.ssa_model.specs.definitions.Formats.{tells_depth, can_tell_depth, can_tell_label, can_tell_state, can_tell_line, CanTellStep, CanTell}
-use Rattle.ssa_model.specs.laws.BenchFiles.{text_lines, spelled_values, given_if, is_written_as, number_in, schema_in, label_in}
-use Rattle.ssa_model.specs.laws.RecordedBenches.{Counts, IsOfRecords, record_format, format_in, depth_in, is_head, counts_in, present_in, led_state, is_move, move_to, move_in, told_move, past_in, future_in, with_moves, lines_bench, recorded_bench, TakenIsRecordedText}
+use Rattle.ssa_model.specs.definitions.BenchOfStates.{text_lines, spelled_values, given_if, is_written_as, number_in, schema_in, label_in}
+use Rattle.ssa_model.specs.definitions.BenchOfRecords.{Counts, record_format, format_in, depth_in, is_head, counts_in, present_in, led_state, is_move, move_to, move_in, told_move, past_in, future_in, with_moves, lines_bench, recorded_bench}
+use Rattle.ssa_model.specs.laws.RecordedBenches.{IsOfRecords, TakenIsRecordedText}
 use Rattle.ssa_model.proofs.CompactTexts.{compact-injective}
 use Rattle.ssa_model.proofs.ToldParts.{line-told}
 use Rattle.ssa_model.proofs.Given.{given-back, tested-back, and_then-back, map-back}

@@ -11,11 +11,13 @@ use Rattle.ssa_model.specs.definitions.Limits.{most_bench_bytes}
 use Rattle.ssa_model.specs.definitions.Operations.{State}
 use Rattle.ssa_model.specs.definitions.Readings.{Readings}
 use Rattle.ssa_model.specs.definitions.Schema.{Schema}
-use Rattle.ssa_model.specs.definitions.History.{Label, Step, Timeline, Bench, appended, last_state, moved_to, present, with_timeline}
+use Rattle.ssa_model.specs.definitions.History.{Label, Step, Timeline, Bench, appended, last_state, moved_to, present, with_timeline, preceded}
 use Rattle.ssa_model.specs.definitions.BenchText.{Format}
-use Rattle.ssa_model.specs.laws.BenchFiles.{given_if, schema_in, spelled_value, values_of}
-use Rattle.ssa_model.specs.laws.RecordedBenches.{Counts, counts_in, present_in, told_move, past_in, future_in, with_moves, lines_bench, recorded_bench, recorded_bench_in, MoveFault, no_move_text, lines_fault, moves_fault, opening_in, texts_fault, recorded_fault}
-use Rattle.ssa_model.specs.laws.LineByLine.{Next, at_end, no_value, value_then, next_value, preceded, at_last, along, ended_with, at_place, on_from, moves_from, with_part}
+use Rattle.ssa_model.specs.definitions.BenchOfStates.{given_if, schema_in, spelled_value, values_of}
+use Rattle.ssa_model.specs.definitions.BenchOfRecords.{Counts, counts_in, present_in, told_move, past_in, future_in, with_moves, lines_bench, recorded_bench, recorded_bench_in}
+use Rattle.ssa_model.specs.definitions.BenchFaults.{MoveFault, no_move_text, lines_fault, moves_fault, opening_in, texts_fault, recorded_fault}
+use Rattle.ssa_model.specs.definitions.NextLines.{Next, at_end, no_value, value_then, next_value}
+use Rattle.ssa_model.specs.laws.LineByLine.{at_last, along, ended_with, at_place, on_from, moves_from, with_part}
 use Rattle.ssa_model.proofs.AlongLines.{moves_in, all_moved, IsPlaced, Lands, went, reaches, fault-along, same-fault, part_of, part-went, part-reaches, part-fault, PartFails, FailsBehind}
 use Rattle.ssa_model.proofs.Given.{and_then-back, given-back, map-back, tested-back}
 use Rattle.ssa_model.proofs.LoneBenches.{lone-parts}

@@ -10,7 +10,7 @@ use Rattle.ssa_model.specs.definitions.Readings.{Readings, ReadFault}
 use Rattle.ssa_model.specs.definitions.Lines.{ended, whole_lines, unfinished_line}
 use Rattle.ssa_model.specs.definitions.BenchText.{line}
 use Rattle.ssa_model.specs.definitions.BenchFile.{IsSpelled}
-use Rattle.ssa_model.specs.laws.BenchFiles.{ended_lines, text_lines, spelled_value, spelled_values}
+use Rattle.ssa_model.specs.definitions.BenchOfStates.{ended_lines, text_lines, spelled_value, spelled_values}
 use Rattle.ssa_model.proofs.Given.{given-back, and_then-back, map-back}
 use Rattle.ssa_model.proofs.LinesFacts.{HaveNoLineFeed, split_lines-ended, ended-split_lines}
 use Rattle.ssa_model.proofs.OneLine.{compact-plain}

@@ -10,9 +10,10 @@ use Rattle.ssa_model.specs.definitions.Operations.{State}
 use Rattle.ssa_model.specs.definitions.Readings.{Readings}
 use Rattle.ssa_model.specs.definitions.Schema.{Schema}
 use Rattle.ssa_model.specs.definitions.History.{Step, Bench, last_state, present, with_timeline}
-use Rattle.ssa_model.specs.laws.BenchFiles.{Head, head_in, schema_in, object_in, lone_in, given_if, step_in, steps_in, with_steps, values_bench, values_of, bench_in}
-use Rattle.ssa_model.specs.laws.RecordedBenches.{MoveFault, no_move_text}
-use Rattle.ssa_model.specs.laws.LineByLine.{Reader, gone_on, at_place, with_part, next_value, ended_with, steps_from, later_from}
+use Rattle.ssa_model.specs.definitions.BenchOfStates.{Head, head_in, schema_in, object_in, lone_in, given_if, step_in, steps_in, with_steps, values_bench, values_of, bench_in}
+use Rattle.ssa_model.specs.definitions.BenchFaults.{MoveFault, no_move_text}
+use Rattle.ssa_model.specs.definitions.NextLines.{next_value}
+use Rattle.ssa_model.specs.laws.LineByLine.{Reader, gone_on, at_place, with_part, ended_with, steps_from, later_from}
 use Rattle.ssa_model.proofs.AlongLines.{part-went, part-reaches, part-fault, PartFails, FailsBehind}
 use Rattle.ssa_model.proofs.Basics.{nat_le-of}
 use Rattle.ssa_model.proofs.Given.{and_then-back, given-back, map-back, tested-back}

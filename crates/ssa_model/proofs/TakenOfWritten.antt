@@ -23,7 +23,8 @@ use Rattle.ssa_model.specs.definitions.BenchText.{states, head_of, head_json, wh
 use Rattle.ssa_model.specs.definitions.Valid.{AllEntries, IsValidState, shared_managers, KeepsOrder, KeepsOrders}
 use Rattle.ssa_model.specs.definitions.BenchFile.{IsReadBack, IsLabel, IsStep, IsSpelled, IsValidBench}
 use Rattle.ssa_model.specs.definitions.Formats.{can_tell_label, can_tell_state, CanTellStep, CanTell}
-use Rattle.ssa_model.specs.laws.BenchFiles.{text_lines, spelled_values, given_if, is_written_as, Head, head_in, schema_in, lone_in, said_label, is_label, label_in, keeps_order, step_with, step_in, steps_in, with_steps, values_bench, bench_in, BenchFilesAreTaken}
+use Rattle.ssa_model.specs.definitions.BenchOfStates.{text_lines, spelled_values, given_if, is_written_as, Head, head_in, schema_in, lone_in, said_label, is_label, label_in, keeps_order, step_with, step_in, steps_in, with_steps, values_bench, bench_in}
+use Rattle.ssa_model.specs.laws.BenchFiles.{BenchFilesAreTaken}
 use Rattle.ssa_model.proofs.LoneBenches.{lone-parts}
 use Rattle.ssa_model.proofs.ShownStates.{shown_state_is_deep}
 use Rattle.ssa_model.proofs.SpelledValues.{text_lines-of, spelled_values-of}

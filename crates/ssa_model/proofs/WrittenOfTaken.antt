@@ -18,7 +18,8 @@ use Rattle.ssa_model.specs.definitions.Answers.{bench_of, Fault, file_state}
 use Rattle.ssa_model.specs.definitions.Lines.{ended}
 use Rattle.ssa_model.specs.definitions.BenchText.{states, head_of, first_json, step_json, bench_values}
 use Rattle.ssa_model.specs.definitions.Formats.{can_tell_label, can_tell_state, CanTellStep, CanTell}
-use Rattle.ssa_model.specs.laws.BenchFiles.{text_lines, spelled_values, given_if, is_written_as, number_in, Head, head_in, schema_in, object_in, lone_in, keeps_order, step_with, step_in, steps_in, with_steps, values_bench, label_in, TakenIsItsText}
+use Rattle.ssa_model.specs.definitions.BenchOfStates.{text_lines, spelled_values, given_if, is_written_as, number_in, Head, head_in, schema_in, object_in, lone_in, keeps_order, step_with, step_in, steps_in, with_steps, values_bench, label_in}
+use Rattle.ssa_model.specs.laws.BenchFiles.{TakenIsItsText}
 use Rattle.ssa_model.proofs.Given.{given-back, tested-back, and_then-back, map-back}
 use Rattle.ssa_model.proofs.LoneBenches.{lone-parts}
 use Rattle.ssa_model.proofs.TakenOfWritten.{nat-itself}

@@ -84,3 +84,13 @@ pub mod ToldParts
 pub mod RecordedBench
 -- bench files in each format
 pub mod Formats
+-- the bench that a file of whole states tells
+pub mod BenchOfStates
+-- the bench that a file of records tells
+pub mod BenchOfRecords
+-- the bench that a file tells, in the format that its first line says
+pub mod BenchOfFile
+-- why a bench file is refused
+pub mod BenchFaults
+-- what stands next in a bench file that is read line by line
+pub mod NextLines

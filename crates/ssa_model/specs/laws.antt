@@ -16,7 +16,7 @@ pub mod ShownObjects
 pub mod ShownStates
 -- a set has one writing as FieldsV1
 pub mod OneWriting
--- how a bench file of whole states is taken, line by line
+-- a bench file of whole states is taken as its bench
 pub mod BenchFiles
 -- what rising names are
 pub mod MemberNames
@@ -34,9 +34,9 @@ pub mod InPlace
 pub mod RecordWalks
 -- a record is read from its JSON
 pub mod RecordReading
--- how a bench file of records is taken, line by line
+-- a bench file of records is taken as its bench
 pub mod RecordedBenches
--- how a bench file is taken, in the format that its first line tells
+-- a bench file is taken as its bench, in whatever format
 pub mod Formats
 -- a bench file read line by line
 pub mod LineByLine

@@ -1,14 +1,13 @@
 -- Members taken out of an object, and out of its metadata.
-use Rattle.std.proofs.Common.{◌≡◌, List, [], ◌∷◌, Bool, true, false, ◌||◌, cond, not, Option, Some, None, Less, String, Global, string_bytes, string_cmp, nat_cmp, refl, sym, ap, ◌∙◌}
+use Rattle.std.proofs.Common.{◌≡◌, List, [], ◌∷◌, Bool, true, false, ◌||◌, cond, Option, Some, None, Less, String, Global, string_bytes, string_cmp, nat_cmp, refl, sym, ap, ◌∙◌}
 use Rattle.std.specs.Prelude.{if◌then◌else◌, codes, option_and_then, unwrap_or, OnOk, IfErr, Result, Ok, Err}
-use Rattle.std.proofs.lemmas.Map.Text.{is_eq-slice_cmp}
 use Rattle.std.specs.Ordering.{is_eq}
 use Rattle.std.specs.Cmp.Lexicographic.{slice_cmp, nat_list_cmp_total}
 use Rattle.std.specs.List.{list_any, AllByRecursion}
 use Rattle.std.specs.List.Sorted.{IsStrictlySortedBy}
 use Rattle.std.specs.Map.{keys_of, lookup, remove_entry, set_value}
 use Rattle.std.specs.BTreeMap.{is_at}
-use Rattle.ssa_members.specs.Members.{left_without, Members as Entries}
+use Rattle.ssa_members.specs.Members.{Members as Entries}
 use Rattle.ssa_model.specs.definitions.Json.{Text, Json, scalar, list, object, same_text, Members, no_members, member, member_of}
 use Rattle.ssa_model.specs.definitions.Objects.{value_at, without, without_names, without_in_metadata, file_names, file_value}
 use Rattle.ssa_json.specs.View.{view, members_view}
@@ -30,16 +29,19 @@ by_one_name k n = or-false (same_text k n) ∙ ap is_eq (nat_list_cmp_total.anti
 
 -- ---- names taken out
 
--- what is left without some names
-pub members-left : (ns : List Text) (es : List Found) → members_view (left_without ns es) ≡ without ns (members_view es)
-members-left ns [] = refl
-members-left ns (e ∷ es) =
-    let k = string_bytes e.0 in
-    ap (λ b. members_view (cond (not b) (e ∷ left_without ns es) (left_without ns es))) (λ i. list_any (λ n. sym (is_eq-slice_cmp k n) i) ns)
-    ∙ elim (list_any (same_text k) ns) as (λ b. members_view (cond (not b) (e ∷ left_without ns es) (left_without ns es))
-    ≡ (if b then without ns (members_view es) else member k (view e.1) (without ns (members_view es)))) [
-      | true ↦ members-left ns es
-      | false ↦ ap (member k (view e.1)) (members-left ns es)
+-- without no name all members stay
+pub without-none : (ms : Members) → without [] ms ≡ ms
+without-none no_members = refl
+without-none (member k v ms) = ap (member k v) (without-none ms)
+
+-- names that are left out one by one
+pub without-first : (n : Text) (ns : List Text) (ms : Members) → without (n ∷ ns) ms ≡ without ns (without (n ∷ []) ms)
+without-first n ns no_members = refl
+without-first n ns (member k v ms) =
+    elim (same_text k n) as (λ b. (if b || list_any (same_text k) ns then without (n ∷ ns) ms else member k v (without (n ∷ ns) ms))
+    ≡ without ns (if b || false then without (n ∷ []) ms else member k v (without (n ∷ []) ms))) [
+      | true ↦ without-first n ns ms
+      | false ↦ ap (λ rest. if list_any (same_text k) ns then rest else member k v rest) (without-first n ns ms)
     ]
 
 -- a name that is left out anyway

@@ -69,11 +69,13 @@ fn value_without(object: Json, names: &[&str]) -> Json
     }
 }
 
-// Takes out the members of these names.
+// Takes out the members of these names, one by one.
 fn remove_members(members: &mut Members<Json>, names: &[&str])
     ensures { members_view members.new.entries ≡ without (map (λ n. n.now) names.now) (members_view members.old.entries) }
 {
-    members.remove_all(names);
+    for name in names {
+        drop(members.remove(*name));
+    }
 }
 
 // Takes the members of these names out of the metadata.

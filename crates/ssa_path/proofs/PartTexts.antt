@@ -8,16 +8,7 @@ use Rattle.ssa_model.specs.definitions.Parts.{Subresource, main, status}
 use Rattle.ssa_model.proofs.Ascii.{ascii-is-utf8}
 use Rattle.ssa_json.specs.Writable.{IsOfProgram}
 use Rattle.ssa_json.proofs.OfProgram.{member-of-program, text-of-program}
-use Rattle.ssa_path.specs.PartMembers.{part_text}
-
--- before other members it is that of the member, where the part is that of a subresource
-part-before : (s : Subresource) (ms : Members) → part_text s ++ compact_members true ms ≡ compact_members true (part_members s ms)
-part-before main ms = refl
-part-before status ms = refl
-
--- what closes an object is written behind it
-pub part-closed : (s : Subresource) → part_text s ++ 125 ∷ [] ≡ compact_members true (part_members s no_members)
-part-closed s = part-before s no_members
+use Rattle.ssa_path.specs.PartMembers.{part_text, part-before}
 
 -- what is written behind it is written with the member behind what stood before it
 pub part-written : (s : Subresource) (before : Text) {after whole : Text} (ms : Members) → after ≡ before ++ part_text s

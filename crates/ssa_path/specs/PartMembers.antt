@@ -1,8 +1,9 @@
 -- The member that tells a part.
-use Rattle.std.specs.Prelude.{List, [], ℕ, Option, Some, None, codes, if◌then◌else◌}
+use Rattle.std.specs.Prelude.{◌≡◌, ◌∷◌, ◌++◌, List, [], ℕ, Option, Some, None, codes, true, if◌then◌else◌}
+use Rattle.std.proofs.Common.{refl}
 use Rattle.ssa_model.specs.definitions.Commands.{is_subresource}
-use Rattle.ssa_model.specs.definitions.Entries.{text_json}
-use Rattle.ssa_model.specs.definitions.Json.{Json, Members}
+use Rattle.ssa_model.specs.definitions.Entries.{part_members, text_json}
+use Rattle.ssa_model.specs.definitions.Json.{Json, Members, compact_members, no_members}
 use Rattle.ssa_model.specs.definitions.Objects.{with_member}
 use Rattle.ssa_model.specs.definitions.Parts.{Subresource, main, status}
 
@@ -24,3 +25,14 @@ told_part v = if is_subresource v then Some status else None
 abbrev pub part_in : Option Json → Option Subresource
 part_in None = Some main
 part_in (Some v) = told_part v
+
+-- ---- its text
+
+-- before other members it is that of the member, where the part is that of a subresource
+pub part-before : (s : Subresource) (ms : Members) → part_text s ++ compact_members true ms ≡ compact_members true (part_members s ms)
+part-before main ms = refl
+part-before status ms = refl
+
+-- what closes an object is written behind it
+pub part-closed : (s : Subresource) → part_text s ++ 125 ∷ [] ≡ compact_members true (part_members s no_members)
+part-closed s = part-before s no_members

@@ -4,7 +4,7 @@ ghost use Rattle.ssa_model.specs.definitions.Path.{element_cmp, is_item_element,
 ghost use Rattle.ssa_path.specs.OwnText.{OwnTextsAreRead};
 ghost use Rattle.ssa_path.specs.View.{element_view};
 
-use crate::keys::{Keys, are_same_members};
+use crate::keys::{SharedKeys, are_same_members};
 use crate::order::{order_keys, order_values};
 use ssa_json::value::Scalar;
 use ssa_members::SmallText;
@@ -15,7 +15,7 @@ use std::cmp::Ordering;
 #[derive(Debug, Drop)]
 pub enum Elem {
     Field(SmallText),
-    Key(Keys),
+    Key(SharedKeys),
     Value(Scalar),
 }
 

@@ -12,7 +12,7 @@ ghost use Rattle.ssa_path.specs.View.{element_view};
 
 use crate::element::Elem;
 use crate::element_fault::ElemFault;
-use crate::keys::Keys;
+use crate::keys::{Keys, SharedKeys};
 use ssa_json::fault::JsonFault;
 use ssa_json::reading_room::ReadingRoom;
 use ssa_json::value::{Json, Scalar};
@@ -147,7 +147,10 @@ fn key_element(
         return Ok(None);
     };
     match keys_of(alloc, members)? {
-        Some(keys) => Ok(Some(Elem::Key(keys))),
+        Some(keys) => {
+            let keys = SharedKeys::of(alloc, keys)?;
+            Ok(Some(Elem::Key(keys)))
+        }
         None => Ok(None),
     }
 }
@@ -163,5 +166,5 @@ fn keys_of(alloc: Global, members: Members<Json>) -> Result<Option<Keys>, AllocE
         };
         found.push((name.into_text(), scalar))?;
     }
-    Keys::new(alloc, found)
+    Ok(Keys::new(found))
 }

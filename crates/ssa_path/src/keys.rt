@@ -13,11 +13,10 @@ use std::rc::Rc;
 
 /// The key fields of an item of a list, at least one, in the order of their names' bytes.
 ///
-/// FieldsV1 writes an item of a map list by them, as `k:{"name":"web"}`. Several may hold them at
-/// once: they are never changed, and go with the last who holds them.
+/// FieldsV1 writes an item of a map list by them, as `k:{"name":"web"}`.
 #[derive(Debug, Drop)]
 pub struct Keys {
-    members: Rc<Vec<(SmallText, Scalar)>>,
+    members: Vec<(SmallText, Scalar)>,
 }
 
 impl Model for Keys {
@@ -28,9 +27,28 @@ impl Model for Keys {
 
     ghost coded = { coded_members };
 
-    ghost view = { λ k. members_view k.members.value.items };
+    ghost view = { λ k. members_view k.members.items };
 
-    ghost invariant = { λ k. are_keys (members_view k.members.value.items) ≡ true };
+    ghost invariant = { λ k. are_keys (members_view k.members.items) ≡ true };
+}
+
+/// Key fields that several hold at once. They are never changed, and go with the last who holds them.
+#[derive(Debug, Drop)]
+pub struct SharedKeys {
+    keys: Rc<Keys>,
+}
+
+impl Model for SharedKeys {
+    ghost use Rattle.std.specs.Prelude.{◌≡◌, true};
+    ghost use Rattle.ssa_path.specs.Keys.{Members, coded_members, are_keys};
+
+    ghost Value = { Members };
+
+    ghost coded = { coded_members };
+
+    ghost view = { λ k. k.keys.value };
+
+    ghost invariant = { λ k. are_keys k.keys.value ≡ true };
 }
 
 // Whether each name stands behind the one before it.
@@ -81,18 +99,14 @@ pub fn are_same_members(members: &[(SmallText, Scalar)], others: &[(SmallText, S
 }
 
 impl Keys {
-    /// The key fields with these names and values, where there is one and the names rise by bytes.
-    /// Where there are none such, no memory is taken.
-    pub fn new(alloc: Global, members: Vec<(SmallText, Scalar)>) -> Result<Option<Keys>, AllocError>
-        ensures { IfOk result (λ k. k ≡ keys_of (members_view members.items)) }
+    /// The key fields with these names and values, where there is one and the names rise by bytes. Takes no memory.
+    pub fn new(members: Vec<(SmallText, Scalar)>) -> Option<Keys>
+        ensures { result ≡ keys_of (members_view members.items) }
     {
         if !are_keys(&members) {
-            return Ok(None);
+            return None;
         }
-        match Rc::new(alloc, members) {
-            Ok(members) => Ok(Some(Keys { members })),
-            Err(_) => Err(AllocError),
-        }
+        Some(Keys { members })
     }
 
     /// The names and values, in the order of the names.
@@ -102,14 +116,34 @@ impl Keys {
     {
         &self.members
     }
+}
+
+impl SharedKeys {
+    /// The key fields, held by one.
+    pub fn of(alloc: Global, keys: Keys) -> Result<SharedKeys, AllocError>
+        ensures { IfOk result (λ k. k ≡ keys) }
+    {
+        match Rc::new(alloc, keys) {
+            Ok(keys) => Ok(SharedKeys { keys }),
+            Err(_) => Err(AllocError),
+        }
+    }
+
+    /// The names and values, in the order of the names.
+    pub fn members(&self) -> &[(SmallText, Scalar)]
+        ensures same { members_view result.now ≡ self.now }
+        ensures rise { are_keys self.now ≡ true }
+    {
+        self.keys.members()
+    }
 
     /// The same key fields for one more who holds them. Takes no memory; `Err` comes where too many
     /// hold them.
     #[inline(always)]
-    pub fn share(&self) -> Result<Keys, AllocError>
+    pub fn share(&self) -> Result<SharedKeys, AllocError>
         ensures { IfOk result (λ k. k ≡ self.now) }
     {
-        let members = self.members.clone()?;
-        Ok(Keys { members })
+        let keys = self.keys.clone()?;
+        Ok(SharedKeys { keys })
     }
 }

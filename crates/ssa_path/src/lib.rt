@@ -53,7 +53,7 @@ pub mod within;
 pub use element::Elem;
 pub use element_fault::ElemFault;
 pub use field_set::FieldSet;
-pub use keys::Keys;
+pub use keys::{Keys, SharedKeys};
 pub use part::Part;
 pub use path::Path;
 pub use shared_set::SharedSet;

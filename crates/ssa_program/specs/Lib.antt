@@ -9,3 +9,4 @@ pub mod Stops
 pub mod Telling
 pub mod Trouble
 pub mod Usage
+pub mod Watching

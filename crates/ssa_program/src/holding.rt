@@ -7,31 +7,35 @@ ghost use Rattle.ssa_program.specs.Done.{BreaksOff, HoldStops, Holds, IsHeld, Ru
 ghost use Rattle.ssa_program.specs.Kept.{IsKeptBy};
 ghost use Rattle.ssa_program.specs.Stops.{IsUnloaded, IsUnsaved, Stops};
 ghost use Rattle.ssa_program.specs.Trouble.{IsNamed};
+ghost use Rattle.ssa_program.specs.Watching.{IsWarned};
 
 use crate::draft::{lock_bench, put_draft};
 use crate::files::load_bench;
 use crate::notes::Notes;
 use crate::status::Status;
 use crate::trouble::Trouble;
+use crate::watch::LengthWatch;
 use ssa_bench::bench::Bench;
 use ssa_disk::disk::Disk;
 use ssa_disk::draft::{Draft, end};
 use ssa_json::sink::Sink;
 use ssa_json::source::Source;
-use ssa_session::bench_session::session;
+use ssa_session::bench_session::watched_session;
 use ssa_session::engine::SessionFault;
 use std::alloc::Global;
 use std::mem::ManuallyDrop;
 
 // Holds a session on the bench of a file. Until it ends, no other call may save the bench.
-pub(crate) fn hold_session<'a, D: Disk, R: Source, W: Sink>(
+pub(crate) fn hold_session<'a, D: Disk, R: Source, W: Sink, E: Sink>(
     disk: &mut D,
     alloc: Global,
     reader: &mut R,
     writer: &mut W,
+    errors: &mut E,
     notes: &mut Notes,
     name: &'a str,
 ) -> Result<Status, Trouble<'a>>
+    ensures warned { IsWarned E.contents E.has_failed errors.old errors.new name.now }
     ensures done { IfOk result (λ s. D.tells ≡ true → Holds (D.view disk.old) (D.view disk.new) W.contents W.has_failed writer.old writer.new
         (R.remaining reader.old) (R.remaining reader.new) (R.has_failed reader.new ≡ true) name.now s) }
     ensures named { IfErr result (IsNamed name.now name.now name.now) }
@@ -39,21 +43,23 @@ pub(crate) fn hold_session<'a, D: Disk, R: Source, W: Sink>(
         (R.remaining reader.old) (R.remaining reader.new) (R.has_failed reader.new ≡ true) name.now t) }
 {
     let mut draft = lock_bench(disk, alloc, name)?;
-    let ended = hold_locked(disk, alloc, reader, writer, notes, &mut draft, name);
+    let ended = hold_locked(disk, alloc, reader, writer, errors, notes, &mut draft, name);
     end(disk, draft);
     ended
 }
 
 // Holds a session on the bench of a file, whose draft is taken.
-fn hold_locked<'a, D: Disk, R: Source, W: Sink>(
+fn hold_locked<'a, D: Disk, R: Source, W: Sink, E: Sink>(
     disk: &mut D,
     alloc: Global,
     reader: &mut R,
     writer: &mut W,
+    errors: &mut E,
     notes: &mut Notes,
     draft: &mut Draft<D::Made, D::Found>,
     name: &'a str,
 ) -> Result<Status, Trouble<'a>>
+    ensures warned { IsWarned E.contents E.has_failed errors.old errors.new name.now }
     ensures own { draft.new.name ≡ draft.old.name }
     ensures done { IfOk result (λ s. D.tells ≡ true → D.Made.contents draft.old.made ≡ Some [] → (s ≡ Status.Done)
         × IsHeld (D.view disk.old) name.now (λ held after.
@@ -74,19 +80,21 @@ fn hold_locked<'a, D: Disk, R: Source, W: Sink>(
         t) }
 {
     let mut bench = ManuallyDrop::new(load_bench(disk, alloc, notes, name)?);
-    hold_and_save(disk, alloc, reader, writer, draft, name, &mut bench)
+    hold_and_save(disk, alloc, reader, writer, errors, draft, name, &mut bench)
 }
 
 // Holds a session on a bench, and saves it at the end of the input.
-fn hold_and_save<'a, D: Disk, R: Source, W: Sink>(
+fn hold_and_save<'a, D: Disk, R: Source, W: Sink, E: Sink>(
     disk: &mut D,
     alloc: Global,
     reader: &mut R,
     writer: &mut W,
+    errors: &mut E,
     draft: &mut Draft<D::Made, D::Found>,
     name: &'a str,
     bench: &mut Bench,
 ) -> Result<Status, Trouble<'a>>
+    ensures warned { IsWarned E.contents E.has_failed errors.old errors.new name.now }
     ensures own { draft.new.name ≡ draft.old.name }
     ensures ended { IfOk result (λ s. s ≡ Status.Done) }
     ensures runs { OnOk result (RunsToEnd (R.remaining reader.old) (R.remaining reader.new) (W.contents writer.old) (W.contents writer.new) bench.old bench.new) }
@@ -105,7 +113,8 @@ fn hold_and_save<'a, D: Disk, R: Source, W: Sink>(
         t) }
     ensures left { OnErr result (IsAsBut (string_bytes draft.old.name) (D.view disk.old) (D.view disk.new)) }
 {
-    match session(alloc, reader, writer, bench) {
+    let mut watch = LengthWatch::new(errors, name);
+    match watched_session(alloc, reader, writer, bench, &mut watch) {
         Ok(()) => {}
         Err(SessionFault::Reader) => return Err(Trouble::SessionBroken),
         Err(SessionFault::Writer) => return Err(Trouble::SessionBroken),

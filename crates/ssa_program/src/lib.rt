@@ -22,6 +22,7 @@ pub mod perform;
 pub mod status;
 mod trouble;
 pub mod usage;
+mod watch;
 
 pub use answer::Reply;
 pub use status::Status;

@@ -2,6 +2,7 @@
 ghost use Rattle.std.specs.Prelude.{◌≡◌, ◌<◌, Ok, Err, true, IfErr, IfOk};
 ghost use Rattle.ssa_program.specs.Done.{IsDone, IsNamedBy, IsStopped};
 ghost use Rattle.ssa_program.specs.Performed.{IsPerformed};
+ghost use Rattle.ssa_program.specs.Watching.{IsBegun};
 
 use crate::changing::{change_bench, look, move_bench};
 use crate::holding::hold_session;
@@ -32,7 +33,7 @@ pub fn perform<D: Disk, R: Source, W: Sink, E: Sink>(
         E.contents E.has_failed errors.old errors.new (R.remaining reader.old) (R.remaining reader.new) (R.has_failed reader.new ≡ true) call.now result }
 {
     let mut notes = Notes::new(alloc);
-    match carry_out(disk, alloc, call, reader, writer, &mut notes) {
+    match carry_out(disk, alloc, call, reader, writer, errors, &mut notes) {
         Ok(status) => {
             notes.tell(errors);
             status.code()
@@ -45,14 +46,16 @@ pub fn perform<D: Disk, R: Source, W: Sink, E: Sink>(
     }
 }
 
-fn carry_out<'a, D: Disk, R: Source, W: Sink>(
+fn carry_out<'a, D: Disk, R: Source, W: Sink, E: Sink>(
     disk: &mut D,
     alloc: Global,
     call: &Call<'a>,
     reader: &mut R,
     writer: &mut W,
+    errors: &mut E,
     notes: &mut Notes,
 ) -> Result<Status, Trouble<'a>>
+    ensures begun { IsBegun E.contents E.has_failed errors.old errors.new call.now }
     ensures done { IfOk result (λ s. D.tells ≡ true → IsDone (D.view disk.old) (D.view disk.new) W.contents W.has_failed writer.old writer.new
         (R.remaining reader.old) (R.remaining reader.new) (R.has_failed reader.new ≡ true) call.now s) }
     ensures named { IfErr result (IsNamedBy call.now) }
@@ -82,6 +85,8 @@ fn carry_out<'a, D: Disk, R: Source, W: Sink>(
             look(disk, alloc, writer, notes, bench, Asked::Owners { path })
         }
         Call::Log { bench } => look(disk, alloc, writer, notes, bench, Asked::Log),
-        Call::Session { bench } => hold_session(disk, alloc, reader, writer, notes, bench),
+        Call::Session { bench } => {
+            hold_session(disk, alloc, reader, writer, errors, notes, bench)
+        }
     }
 }

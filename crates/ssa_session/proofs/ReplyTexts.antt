@@ -6,8 +6,8 @@ use Rattle.ssa_model.specs.definitions.Json.{Text, compact}
 use Rattle.ssa_model.specs.definitions.Table.{ManagerKey}
 use Rattle.ssa_model.specs.definitions.Replies.{key_json}
 use Rattle.ssa_path.specs.PartMembers.{part_text}
-use Rattle.ssa_path.proofs.PartTexts.{part-closed}
-use Rattle.ssa_json.proofs.ItemTexts.{joined}
+use Rattle.ssa_path.specs.PartMembers.{part-closed}
+use Rattle.ssa_model.proofs.ItemTexts.{joined}
 
 -- a manager's text is that of its members, one behind another
 pub key-written : (k : ManagerKey) (t0 : Text) {t1 t2 t3 t4 t5 t6 : Text}

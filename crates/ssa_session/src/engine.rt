@@ -8,6 +8,7 @@ ghost use Rattle.ssa_session.specs.Session.{AnswersLine};
 ghost use Rattle.ssa_session.specs.Outcome.{AnswersAll, AnswersWhole, AnswersPartly};
 
 use crate::machine::Machine;
+use crate::watcher::Watcher;
 use ssa_json::fault_code::FaultCode;
 use ssa_json::reading_room::ReadingRoom;
 use ssa_json::sink::Sink;
@@ -34,12 +35,14 @@ pub enum SessionFault {
 pub const LINE_LIMIT: usize = 1_048_576;
 
 /// Answers each line of the input, and writes the replies, each ended by a line feed and flushed. Bytes
-/// after the last line feed are a line too, once the input has ended. Holds one line at a time.
-pub fn session<R: Source, W: Sink, M: Machine>(
+/// after the last line feed are a line too, once the input has ended. Holds one line at a time. The watcher
+/// looks at the machine behind each reply.
+pub fn session<R: Source, W: Sink, M: Machine, T: Watcher<M>>(
     alloc: Global,
     reader: &mut R,
     writer: &mut W,
     machine: &mut M,
+    watcher: &mut T,
 ) -> Result<(), SessionFault>
     // All lines of the input are answered, and the input has ended.
     ensures ok { OnOk result (AnswersAll M.reply M.after (R.remaining reader.old) (R.remaining reader.new)
@@ -49,6 +52,9 @@ pub fn session<R: Source, W: Sink, M: Machine>(
 
     // All replies are handed on.
     ensures handed_on { OnOk result (W.is_handed_on writer.old ≡ true → W.is_handed_on writer.new ≡ true) }
+
+    // It looked at the machine, and did nothing else.
+    ensures watched { T.goes watcher.old watcher.new }
 
     // The reader failed: the whole lines that were read are answered.
     ensures reader { result ≡ Err SessionFault.Reader → AnswersWhole M.reply M.after (R.remaining reader.old) (R.remaining reader.new)
@@ -71,6 +77,7 @@ pub fn session<R: Source, W: Sink, M: Machine>(
                 let Ok(()) = answer_line(alloc, writer, machine, &mut room, &line) else {
                     return Err(SessionFault::Writer);
                 };
+                watcher.look(alloc, machine, &line);
             }
             LineEnd::EndOfInput => {
                 if line.is_empty() {
@@ -79,6 +86,7 @@ pub fn session<R: Source, W: Sink, M: Machine>(
                 let Ok(()) = answer_line(alloc, writer, machine, &mut room, &line) else {
                     return Err(SessionFault::Writer);
                 };
+                watcher.look(alloc, machine, &line);
                 return Ok(());
             }
         }

@@ -24,9 +24,11 @@ pub mod files;
 mod log_text;
 pub mod machine;
 pub mod reply_text;
+pub mod watcher;
 
 pub use bench_machine::answer_command;
-pub use bench_session::session;
+pub use bench_session::{session, watched_session};
 pub use engine::{LINE_LIMIT, SessionFault};
 pub use files::{Ending, FileFault, bench_of, bench_with, schema_of, tell};
 pub use machine::Machine;
+pub use watcher::{Unwatched, Watcher};

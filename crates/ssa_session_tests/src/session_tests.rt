@@ -9,6 +9,7 @@ use ssa_samples::breaks::Breaks;
 use ssa_samples::marks::Marks;
 use ssa_session::engine::{SessionFault, session};
 use ssa_session::machine::Machine;
+use ssa_session::watcher::Unwatched;
 use std::alloc::{AllocError, Global};
 use std::test::Fail;
 
@@ -35,7 +36,13 @@ impl Machine for Echo {
 fn an_unfinished_line_before_a_fault_is_not_answered(rt: HostRuntime) {
     let mut reader = Breaks::new(b"abc\nde\nfg");
     let mut writer = OfWriter::new(Vec::new(rt.alloc()));
-    let done = session(rt.alloc(), &mut reader, &mut writer, &mut Echo);
+    let done = session(
+        rt.alloc(),
+        &mut reader,
+        &mut writer,
+        &mut Echo,
+        &mut Unwatched,
+    );
     assert_eq!(rt; done, Err(SessionFault::Reader));
     assert_eq!(rt; writer.into_inner().as_slice(), b"abc\nde\n".as_slice());
 }
@@ -44,7 +51,13 @@ fn an_unfinished_line_before_a_fault_is_not_answered(rt: HostRuntime) {
 fn each_reply_is_flushed(rt: HostRuntime) {
     let mut reader = OfReader::new(b"ab\n\ncd".as_slice());
     let mut writer = Marks::new(rt.alloc());
-    let done = session(rt.alloc(), &mut reader, &mut writer, &mut Echo);
+    let done = session(
+        rt.alloc(),
+        &mut reader,
+        &mut writer,
+        &mut Echo,
+        &mut Unwatched,
+    );
     assert_eq!(rt; done, Ok(()));
     assert_eq!(rt; writer.bytes(), b"ab\n|\n|cd\n|".as_slice());
 }
@@ -54,7 +67,13 @@ fn a_full_device_has_a_beginning(rt: HostRuntime) {
     let mut room = [0u8; 4];
     let mut reader = OfReader::new(b"ab\ncd\nef\n".as_slice());
     let mut writer = OfWriter::new(&mut room[..]);
-    let done = session(rt.alloc(), &mut reader, &mut writer, &mut Echo);
+    let done = session(
+        rt.alloc(),
+        &mut reader,
+        &mut writer,
+        &mut Echo,
+        &mut Unwatched,
+    );
     assert_eq!(rt; done, Err(SessionFault::Writer));
     assert_eq!(rt; room.as_slice(), b"ab\nc".as_slice());
 }
@@ -68,7 +87,7 @@ fn takes(
 ) -> (Result<(), SessionFault>, Vec<u8>) {
     let mut reader = OfReader::new(input.as_bytes());
     let mut writer = OfWriter::new(Falters::new(alloc, calls, takes_nothing));
-    let done = session(alloc, &mut reader, &mut writer, &mut Echo);
+    let done = session(alloc, &mut reader, &mut writer, &mut Echo, &mut Unwatched);
     (done, writer.into_inner().into_bytes())
 }
 
@@ -99,7 +118,7 @@ fn a_writer_that_falters_has_a_beginning(rt: HostRuntime) {
 fn whole_lines(alloc: Global, bytes: &[u8]) -> (Result<(), SessionFault>, Vec<u8>) {
     let mut reader = Breaks::new(bytes);
     let mut writer = OfWriter::new(Vec::new(alloc));
-    let done = session(alloc, &mut reader, &mut writer, &mut Echo);
+    let done = session(alloc, &mut reader, &mut writer, &mut Echo, &mut Unwatched);
     (done, writer.into_inner())
 }
 

@@ -5,7 +5,7 @@ use ssa_json::value::Scalar;
 use ssa_members::SmallText;
 use ssa_path::element::{Elem, own_texts_are_read};
 use ssa_path::element_fault::ElemFault;
-use ssa_path::keys::Keys;
+use ssa_path::keys::{Keys, SharedKeys};
 use ssa_path::path::Path;
 use ssa_path::path_text::push_path;
 use std::alloc::{AllocError, Global};
@@ -131,8 +131,11 @@ fn push_numbers(
 fn shared_len(alloc: Global, members: &[(&str, i64)]) -> Result<Option<usize>, AllocError> {
     let mut pairs = Vec::new(alloc);
     push_numbers(alloc, &mut pairs, members)?;
-    match Keys::new(alloc, pairs)? {
-        Some(keys) => Ok(Some(keys.share()?.members().len())),
+    match Keys::new(pairs) {
+        Some(keys) => {
+            let keys = SharedKeys::of(alloc, keys)?;
+            Ok(Some(keys.share()?.members().len()))
+        }
         None => Ok(None),
     }
 }
@@ -222,8 +225,8 @@ fn push_escaped(alloc: Global, pairs: &mut Vec<(SmallText, Scalar)>) -> Result<(
 fn escaped_key(alloc: Global) -> Result<Elem, Fail> {
     let mut pairs = Vec::new(alloc);
     push_escaped(alloc, &mut pairs)?;
-    match Keys::new(alloc, pairs)? {
-        Some(keys) => Ok(Elem::Key(keys)),
+    match Keys::new(pairs) {
+        Some(keys) => Ok(Elem::Key(SharedKeys::of(alloc, keys)?)),
         None => Err(Fail::new("the names rise")),
     }
 }

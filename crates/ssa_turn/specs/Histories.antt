@@ -4,7 +4,7 @@ use Rattle.std.specs.Borrow.{Bor}
 use Rattle.std.specs.List.{All}
 use Rattle.ssa_model.specs.definitions.History as model
 use Rattle.ssa_model.specs.definitions.Operations.{State}
-pub use Rattle.ssa_model.specs.laws.LineByLine.{preceded}
+pub use Rattle.ssa_model.specs.definitions.History.{preceded}
 use Rattle.ssa_model.specs.definitions.RecordedBench.{HasReadHistory}
 use Rattle.ssa_json.specs.Readings.{readings}
 use Rattle.ssa_path.specs.Subresources.{part_view}

@@ -1,7 +1,7 @@
 //! The command that a value says, as a bench file tells of each state but the first.
 ghost use Rattle.std.specs.Prelude.{◌≡◌, ◌&&◌, IfOk, option_map, codes};
 ghost use Rattle.ssa_model.specs.definitions.History.{applied, is_manager_name, updated};
-ghost use Rattle.ssa_model.specs.laws.BenchFiles.{given_if, label_in};
+ghost use Rattle.ssa_model.specs.definitions.BenchOfStates.{given_if, label_in};
 ghost use Rattle.ssa_json.specs.Readings.{readings};
 ghost use Rattle.ssa_json.specs.View.{view};
 ghost use Rattle.ssa_turn.specs.Histories.{label_view};

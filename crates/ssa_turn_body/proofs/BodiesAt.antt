@@ -32,6 +32,7 @@ use Rattle.ssa_turn_body.specs.Records.{body_told}
 use Rattle.ssa_turn_body.specs.Rooms.{HasBodyRoom}
 use Rattle.ssa_turn_body.specs.Said.{AreTold, Contents, contents}
 use Rattle.ssa_turn_body.specs.Told.{content_told}
+use Rattle.ssa_turn_body.specs.Lean.{AreLean}
 use Rattle.ssa_turn_body.specs.Writable.{AreWritable}
 use Rattle.ssa_turn_body.specs.declared.steps.BodySteps.{BodySteps}
 use Rattle.ssa_turn_body.specs.declared.steps.Step.{Step}
@@ -124,6 +125,9 @@ module _ (p : Path) (from to : Node) (ps : List Elem) (old : List Step) (s : Bod
   writable : AreWritable s.steps.items
   writable = subst AreWritable made leading.writable
 
+  lean : AreLean s.steps.items
+  lean = subst AreLean made leading.lean
+
   -- the contents of the trees are those of the bodies
   before-is : (λ q. get b (p ++ q)) ≡ contents (marks from)
   before-is = λ i q. (has_tree q ∙ marks-tell from q tree) i
@@ -203,4 +207,5 @@ module _ (p : Path) (from to : Node) (ps : List Elem) (old : List Step) (s : Bod
               ∙ record-leads turned.before turned.after b d turned.tree_before turned.tree_after turned.body_before turned.body_after alike_now);
         };
     writable = writable;
+    lean = lean;
   }

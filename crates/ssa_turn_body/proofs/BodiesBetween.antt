@@ -15,6 +15,7 @@ use Rattle.ssa_turn_body.specs.Marks.{marks}
 use Rattle.ssa_turn_body.specs.Records.{body_told}
 use Rattle.ssa_turn_body.specs.Rooms.{HasBodyRoom}
 use Rattle.ssa_turn_body.specs.Said.{AreTold, contents}
+use Rattle.ssa_turn_body.specs.Lean.{AreLean}
 use Rattle.ssa_turn_body.specs.Writable.{AreWritable}
 use Rattle.ssa_turn_body.specs.declared.steps.BodySteps.{BodySteps}
 use Rattle.ssa_turn_body.specs.declared.steps.Step.{Step}
@@ -55,6 +56,9 @@ module _ (v w : Node) (ps : List Elem) (old : List Step) (s : BodySteps) (tree :
   writable : AreWritable s.steps.items
   writable = subst AreWritable (ap (λ xs. xs ++ leading.made) (sym none) ∙ sym leading.added) leading.writable
 
+  lean : AreLean s.steps.items
+  lean = subst AreLean (ap (λ xs. xs ++ leading.made) (sym none) ∙ sym leading.added) leading.lean
+
   -- the changes serve each turn of the first body
   pub between-room : (b c : Body) → body_of v ≡ b → body_of w ≡ c → AreAlike b c → HasBodyRoom s b
   between-room b c is to alike = record {
@@ -78,4 +82,5 @@ module _ (v w : Node) (ps : List Elem) (old : List Step) (s : BodySteps) (tree :
               ∙ record-leads turned.before turned.after b d turned.tree_before turned.tree_after turned.body_before turned.body_after alike_now);
         };
     writable = writable;
+    lean = lean;
   }

@@ -94,7 +94,8 @@ rest-same e es fs be bf same x =
       | false ↦ λ t u. u
     ] refl (same x)
 
-rising-same : (es fs : List Element) → rises es ≡ true → rises fs ≡ true → SameMembers es fs → es ≡ fs
+-- elements that rise are the same where they have the same members
+pub rising-same : (es fs : List Element) → rises es ≡ true → rises fs ≡ true → SameMembers es fs → es ≡ fs
 unfolding SameMembers
 rising-same [] [] re rf same = refl
 rising-same [] (f ∷ fs) re rf same = absurd (true≢false (ap (λ b. b || list_any (same_element f) fs) (sym (same_element-itself f)) ∙ sym (same f)))

@@ -17,9 +17,10 @@ use Rattle.ssa_typed.specs.Rows.{are_apart, are_trees}
 use Rattle.ssa_typed.specs.declared.node.Node.{Node}
 use Rattle.ssa_turn_body.specs.Between.{IsEditBetween}
 use Rattle.ssa_turn_body.specs.Changes.{ChangeFits, ChangeGives}
-use Rattle.ssa_turn_body.specs.Edits.{EditGives, told_unless}
+use Rattle.ssa_turn_body.specs.Edits.{EditGives, is_idle, told_unless}
 use Rattle.ssa_turn_body.specs.Found.{AreFound, AreKnown, fresh}
-use Rattle.ssa_turn_body.specs.Led.{AreLeading, AreSaying, IsLed, MayAdd, is_idle}
+use Rattle.ssa_turn_body.specs.Lean.{IsLean}
+use Rattle.ssa_turn_body.specs.Led.{AreLeading, AreSaying, IsLed, MayAdd}
 use Rattle.ssa_turn_body.specs.Marks.{Child, Kids, Marks, Place, kids, marks, marks_in, may_stand, names, with_order}
 use Rattle.ssa_turn_body.specs.Once.{NamesOnce}
 use Rattle.ssa_turn_body.specs.Orders.{is_none}
@@ -35,6 +36,7 @@ use Rattle.ssa_turn_body.proofs.EditTold.{IsEdit, edit-step-told}
 use Rattle.ssa_turn_body.proofs.Finishing.{led_kids, names-from, fresh-names, fresh-trees, long, held-kids, edit-fits, idle-told, put}
 use Rattle.ssa_turn_body.proofs.Knowing.{known-found}
 use Rattle.ssa_turn_body.proofs.Leading.{led-own, turned-own}
+use Rattle.ssa_turn_body.proofs.LeanSteps.{between-lean}
 use Rattle.ssa_turn_body.proofs.Marking.{names-kids}
 use Rattle.ssa_turn_body.proofs.OnceOnly.{once-added}
 use Rattle.ssa_turn_body.proofs.Recording.{leading-same}
@@ -303,4 +305,5 @@ module _ (o : Content) (cs ds : List Child) (fs : Found) (s : ChildrenEdit) (bet
               (edit-fits o cs ds fs s between h own_apart apart found holds trees stand)),
           tt,
         );
+        lean = (subst IsLean (sym a.2) (between-lean o cs ds fs s between h own_apart own_stand stand e), tt);
       }

@@ -24,6 +24,7 @@ use Rattle.ssa_turn_body.specs.declared.steps.BodySteps.{BodySteps}
 use Rattle.ssa_turn_body.specs.declared.steps.Step.{Step}
 use Rattle.ssa_turn_body.proofs.Copied.{placed_as, say-same, copy-fits, copy-leads}
 use Rattle.ssa_turn_body.proofs.HeldTrees.{AllHoldTrees, left-hold, reverse-hold, same-told}
+use Rattle.ssa_turn_body.proofs.LeanSteps.{copies-lean}
 use Rattle.ssa_turn_body.proofs.OnceOnly.{once-copied}
 use Rattle.ssa_turn_body.proofs.Returning.{says-reverse}
 
@@ -183,4 +184,5 @@ room-copied s c z b room = record {
   once = once-copied s.steps.items c.steps.items z room.once;
   turns = turn-recorded s c z b room;
   writable = copies-writable s.steps.items c.steps.items z room.writable;
+  lean = copies-lean s.steps.items c.steps.items z room.lean;
 }

@@ -72,6 +72,7 @@ edit-parts cs ds fs back s found h =
           ∙ ap (λ ps. taken ps 0 (reordered (elements cs) before)) (sym h.gone.places);
       come = h.come.places;
       come_named = h.come.named;
+      few = subst (λ n. length before ≤ n) t.long h.before.few;
       after = h.after;
       order_before = h.order_before;
       order_after = h.order_after;

@@ -234,7 +234,7 @@ nothing-common [] = refl
 nothing-common (e ∷ es) = nothing-common es
 
 -- items of lists that are not in one order are there
-both-items : (es fs : List Element) → are_items es ≡ true → are_items fs ≡ true → are_in_one_order es fs ≡ false
+pub both-items : (es fs : List Element) → are_items es ≡ true → are_items fs ≡ true → are_in_one_order es fs ≡ false
     → (are_some_items es && are_some_items fs) ≡ true
 both-items [] fs h k n = absurd (true≢false (sym (ap (λ xs. Rattle.std.specs.Cmp.Lexicographic.pointwise same_element [] xs) (nothing-common fs)) ∙ n))
 both-items (e ∷ es) [] h k n =

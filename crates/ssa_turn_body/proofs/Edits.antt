@@ -244,13 +244,15 @@ none-reversed (x ∷ xs) = ap is_none (reverse-append (x ∷ []) xs) ∙ last (r
     last [] = refl
     last (y ∷ ys) = refl
 
-either-way : (a b : Bool) → (a && b) ≡ (b && a)
+-- both tests pass, whichever comes first
+pub either-way : (a b : Bool) → (a && b) ≡ (b && a)
 either-way true true = refl
 either-way true false = refl
 either-way false true = refl
 either-way false false = refl
 
-turned-keeps : (s t : ChildrenEdit) (v w : Place) → EditGives s v t w → keeps_places s ≡ keeps_places t
+-- what an edit becomes exchanges children just where the edit does
+pub turned-keeps : (s t : ChildrenEdit) (v w : Place) → EditGives s v t w → keeps_places s ≡ keeps_places t
 turned-keeps s t v w g =
     either-way (is_none s.before.items) (is_none s.after.items)
     ∙ (λ i. sym (ap is_none g.before ∙ none-reversed s.after.items) i && sym (ap is_none g.after ∙ none-reversed s.before.items) i)

@@ -4,7 +4,7 @@ use Rattle.std.specs.List.{swap, range_with_len}
 use Rattle.std.specs.List.Sorted.{SwapsInRange}
 use Rattle.std.proofs.lemmas.Bool.{eqb-true}
 use Rattle.std.proofs.lemmas.Bool.Decides.{nat_tests}
-use Rattle.std.proofs.lemmas.List.{get_or-set_other, length-set, ext_get_or}
+use Rattle.std.proofs.lemmas.List.{get_or-set_other, length-append, length-set, ext_get_or}
 use Rattle.std.proofs.lemmas.List.FromFn.{length-range_with_len, get_or-range_with_len}
 use Rattle.std.proofs.lemmas.Grind.{get_or-set_at}
 use Rattle.std.proofs.lemmas.List.Edits.{length-swap}
@@ -58,6 +58,8 @@ pub record IsExchanging (wanted : List ℕ) (i : ℕ) (order places : List ℕ) 
   pub stands : (x : ℕ) → x < length wanted → get_or order (get_or places x 0) 0 ≡ x
   -- at the first places stands what is wanted
   pub done : (k : ℕ) → k < i → get_or order k 0 ≡ get_or wanted k 0
+  -- no more is exchanged than there are first places
+  pub few : length swaps ≤ i
   -- where all stand as wanted, nothing was exchanged
   pub idle : wanted ≡ range_with_len 0 (length wanted) → swaps ≡ []
 
@@ -77,6 +79,7 @@ exchanging-init wanted order places o p =
       there = λ x lt. subst (λ y. y < n) (sym (at places p x lt)) lt;
       stands = λ x lt. ap (λ k. get_or order k 0) (at places p x lt) ∙ at order o x lt;
       done = λ k lt. absurd (omega arith);
+      few = omega arith;
       idle = λ e. refl;
     }
 
@@ -197,6 +200,7 @@ module _ (wanted : List ℕ) (i : ℕ) (order places : List ℕ) (swaps : List (
               (both-within _ _ _ _ _ _ lt place-within (h.there x less));
           stands = λ x less. (λ t. get_or (o t) (get_or (p t) x 0) 0) ∙ stands-after x less;
           done = λ k less. ap (λ xs. get_or xs k 0) o ∙ done-after k less;
+          few = let so_far = h.few in let long = ap length s ∙ length-append swaps ((i, q) ∷ []) in omega arith;
           idle = λ e. absurd (never e);
         }
 

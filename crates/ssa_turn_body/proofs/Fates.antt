@@ -243,4 +243,4 @@ fates-filled k (Comes d ∷ fs) = fates-filled k fs
 
 -- what stays keeps its order
 pub fates-order : (fs : List Fate) → IsReordering (stood_at 0 fs) (stay_told fs) []
-fates-order fs = record { range = tt; order = fates-filled 0 fs; none = λ e. refl }
+fates-order fs = record { range = tt; order = fates-filled 0 fs; none = λ e. refl; few = omega arith }

@@ -21,9 +21,9 @@ use Rattle.ssa_typed.proofs.Overlaying.{alike-child, alike-root}
 use Rattle.ssa_turn_body.proofs.Places.{IsKind}
 use Rattle.ssa_turn_body.specs.Changes.{ChangeGives}
 use Rattle.ssa_turn_body.specs.Between.{IsEditBetween}
-use Rattle.ssa_turn_body.specs.Edits.{EditFits, edited, going, keeps_places, staying, remade, told_unless}
+use Rattle.ssa_turn_body.specs.Edits.{EditFits, edited, going, is_idle, keeps_places, staying, remade, told_unless}
 use Rattle.ssa_turn_body.specs.Found.{AreFound, AreLed, fresh, kept, somes}
-use Rattle.ssa_turn_body.specs.Led.{AreLeading, is_idle}
+use Rattle.ssa_turn_body.specs.Led.{AreLeading}
 use Rattle.ssa_turn_body.specs.Marks.{Child, Kids, kids, names, Marks, marks, marks_in, may_stand, with_order, Place}
 use Rattle.ssa_turn_body.specs.Told.{from_place}
 use Rattle.ssa_turn_body.specs.Woven.{ArePlaces, left, woven, room_for}
@@ -196,10 +196,10 @@ module _ (o : Content) (cs ds : List Child) (fs : Found) (s : ChildrenEdit) (bet
   -- where nothing is to be done the children are the second ones already
   idle-same : is_idle s ≡ true → led_kids o cs ds ≡ kids ds
   idle-same idle =
-      let two = both_first (is_none s.before.items && is_none s.gone.places.items) _ idle in
-      let b = none-is s.before.items (both_first (is_none s.before.items) _ two) in
-      let g = none-is s.gone.places.items (both_second (is_none s.before.items) _ two) in
-      let c = none-is s.come.places.items (both_second (is_none s.before.items && is_none s.gone.places.items) _ idle) in
+      let two = both_first (keeps_places s && is_none s.gone.places.items) _ idle in
+      let b = none-is s.before.items (both_first (is_none s.before.items) _ (both_first (keeps_places s) _ two)) in
+      let g = none-is s.gone.places.items (both_second (keeps_places s) _ two) in
+      let c = none-is s.come.places.items (both_second (keeps_places s && is_none s.gone.places.items) _ idle) in
       (λ i. reordered (woven (sym c i) 0 (fresh fs (kids ds)) (left (sym g i) 0 (reordered (led_kids o cs ds) (sym b i)))) (sym between.after i))
       ∙ between.whole (led_kids o cs ds) (kids ds) long led-all
 

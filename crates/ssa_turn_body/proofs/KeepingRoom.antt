@@ -9,12 +9,14 @@ use Rattle.ssa_model.proofs.BodyLeads.{tree_leads}
 use Rattle.ssa_typed.specs.Rows.{body_of, is_tree}
 use Rattle.ssa_typed.specs.declared.node.Node.{Node}
 use Rattle.ssa_typed.proofs.AnyTree.{tree-closed, tree-items, tree-once, tree-root}
+use Rattle.ssa_turn_body.specs.Lean.{AreLean}
 use Rattle.ssa_turn_body.specs.Records.{body_told}
 use Rattle.ssa_turn_body.specs.Rooms.{TurnsKeepRoom}
 use Rattle.ssa_turn_body.proofs.BackAgain.{bodies-back}
 use Rattle.ssa_turn_body.specs.Writable.{AreWritable}
 use Rattle.ssa_turn_body.proofs.Writables.{left-writable, reverse-writable}
 use Rattle.ssa_turn_body.proofs.HeldTrees.{AllHoldTrees, fit-hold, left-hold, reverse-hold, same-told}
+use Rattle.ssa_turn_body.proofs.LeanSteps.{reverse-lean, turned-lean}
 use Rattle.ssa_turn_body.proofs.OnceOnly.{once-turned}
 
 tree-is : (n : Node) → is_tree n ≡ true → IsTree (body_of n)
@@ -63,4 +65,7 @@ turns-keep-room s t b c room turned fits = record {
       subst AreWritable (reverse-reverse t.steps.items) (reverse-writable (reverse t.steps.items)
       (left-writable s.steps.items turned.before (reverse t.steps.items) turned.after
       (room.fits turned.before turned.tree_before turned.body_before) turned.turned));
+  lean =
+      subst AreLean (reverse-reverse t.steps.items) (reverse-lean (reverse t.steps.items)
+      (turned-lean s.steps.items turned.before (reverse t.steps.items) turned.after turned.turned room.lean));
 }

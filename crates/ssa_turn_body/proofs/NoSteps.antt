@@ -10,6 +10,7 @@ use Rattle.ssa_model.specs.laws.RecordWalks.{AreAlike, class_of}
 use Rattle.ssa_typed.specs.Rows.{body_of}
 use Rattle.ssa_typed.specs.declared.node.Node.{Node}
 use Rattle.ssa_turn_body.specs.Bodies.{IsBodyTurned}
+use Rattle.ssa_turn_body.specs.Lean.{AreLean}
 use Rattle.ssa_turn_body.specs.Records.{body_told}
 use Rattle.ssa_turn_body.specs.Rooms.{AreRecorded, HasBodyRoom}
 use Rattle.ssa_turn_body.specs.Said.{says}
@@ -57,4 +58,5 @@ none-room s b none = record {
   once = once-none s.steps.items none;
   turns = λ t c turned. none-turned s t b c none turned;
   writable = subst AreWritable (sym none) tt;
+  lean = subst AreLean (sym none) tt;
 }

@@ -15,9 +15,9 @@ use Rattle.ssa_typed.proofs.Levels.{level-below}
 use Rattle.ssa_typed.proofs.Lookups.{content-level}
 use Rattle.ssa_turn_body.specs.Applying.{Gone, IsApplyingBelow, IsApplying, MayPartBelow, behind, stays_of}
 use Rattle.ssa_turn_body.specs.Between.{IsEditBetween}
-use Rattle.ssa_turn_body.specs.Edits.{told_unless}
+use Rattle.ssa_turn_body.specs.Edits.{is_idle, told_unless}
 use Rattle.ssa_turn_body.specs.Found.{AreFound, IsReordering}
-use Rattle.ssa_turn_body.specs.Led.{AreLeading, MayAdd, is_idle}
+use Rattle.ssa_turn_body.specs.Led.{AreLeading, MayAdd}
 use Rattle.ssa_turn_body.specs.Marks.{Child, Marks, kids, marks, may_stand, with_order}
 use Rattle.ssa_turn_body.specs.Orders.{is_none}
 use Rattle.ssa_turn_body.specs.Told.{from_place}
@@ -81,9 +81,9 @@ module _ (fs : List Fate) (n : ℕ) (s : ChildrenEdit) (of : IsEditOf (passed fs
 
 -- an edit by which something goes or comes is not idle
 passing-busy : (fs : List Fate) (s : ChildrenEdit) (n : ℕ) → IsEditOf (passed fs) n s → is_still (passed fs) ≡ false
-    → (is_none s.before.items && is_none s.gone.places.items && is_none s.come.places.items) ≡ false
+    → is_idle s ≡ false
 passing-busy fs s n of passes =
-    (λ i. is_none (of.before i) && is_none ((of.gone i).0) && is_none ((of.come i).0)) ∙ passes
+    (λ i. is_none (of.before i) && is_none (of.after i) && is_none ((of.gone i).0) && is_none ((of.come i).0)) ∙ passes
 
 -- with one behind them the children are one more
 pub one-longer : (xs ys : List Child) (d : Child) (n : ℕ) → n ≡ length xs → ys ≡ xs ++ d ∷ [] → n + 1 ≡ length ys

@@ -18,6 +18,7 @@ use Rattle.ssa_typed.specs.declared.node.Node.{Node}
 use Rattle.ssa_typed.proofs.OverNodes.{leaf-there}
 use Rattle.ssa_turn_body.specs.Changes.{ChangeFits, ChangeGives}
 use Rattle.ssa_turn_body.specs.Led.{AreLeading, AreSaying, IsLed, MayAdd}
+use Rattle.ssa_turn_body.specs.Lean.{IsLean}
 use Rattle.ssa_turn_body.specs.Marks.{Marks, Place}
 use Rattle.ssa_turn_body.specs.Once.{changes_at}
 use Rattle.ssa_turn_body.specs.Said.{AreTold, between, contents, is_swapped}
@@ -28,6 +29,7 @@ use Rattle.ssa_turn_body.specs.declared.change.PlaceChange.TheVariants.{Leaf as 
 use Rattle.ssa_turn_body.specs.declared.children.LeafSwap.{LeafSwap}
 use Rattle.ssa_turn_body.specs.declared.steps.Step.{Step}
 use Rattle.ssa_turn_body.proofs.Leading.{below-is, lead-both, led-own, led-same, led-then, turned-own}
+use Rattle.ssa_turn_body.proofs.LeanSteps.{both-lean}
 use Rattle.ssa_turn_body.proofs.OnceOnly.{once-added, once-same, once-then}
 use Rattle.ssa_turn_body.proofs.Returning.{leads-tree}
 use Rattle.ssa_turn_body.proofs.Writables.{both-writable}
@@ -56,6 +58,7 @@ leading-same p M N xs ys e same = record {
   saying = saying-same p M N same;
   once = once-same p xs ys e;
   writable = tt;
+  lean = tt;
 }
 
 -- ---- one after the other
@@ -83,6 +86,7 @@ leading-then p M N O xs ys zs joins g h places = record {
   saying = saying-then p M N O g.made h.made g.led g.saying h.saying joins;
   once = once-then p xs ys zs g.once h.once places;
   writable = both-writable g.made h.made g.writable h.writable;
+  lean = both-lean g.made h.made g.lean h.lean;
 }
 
 -- ---- in a child
@@ -161,6 +165,7 @@ leading-leaf p own to old new other other_back h = record {
   });
   once = once-added p (LeafChange (record { leaf = to })) old new tt h;
   writable = (subst IsWritable (sym h.2) tt, tt);
+  lean = (subst IsLean (sym h.2) tt, tt);
 }
   where
     put : (t : PlaceChange) (y : Place) → ChangeGives (LeafChange (record { leaf = to })) (leaf_content own, []) t y → (q : Path)

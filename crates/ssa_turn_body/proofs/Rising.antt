@@ -91,15 +91,17 @@ reordering-none fs back swaps h rise none = record {
   range = subst (SwapsInRange (length back)) (sym none) tt;
   order = ap (reordered (range_with_len 0 (length back))) none ∙ sym (wanted-rising (length back) fs back h rise);
   none = λ e. none;
+  few = let long = ap length none in omega arith;
 }
 
 -- exchanges that make what is wanted bring what stays into its order
 pub reordering-made : (fs back : Found) (wanted : List ℕ) (swaps : List (ℕ × ℕ)) → wanted ≡ filled 0 back (somes fs) → SwapsInRange (length wanted) swaps
-    → (wanted ≡ range_with_len 0 (length wanted) → swaps ≡ []) → reordered (range_with_len 0 (length wanted)) swaps ≡ wanted → IsReordering fs back swaps
-reordering-made fs back wanted swaps is range none order =
+    → length swaps ≤ length wanted → (wanted ≡ range_with_len 0 (length wanted) → swaps ≡ []) → reordered (range_with_len 0 (length wanted)) swaps ≡ wanted → IsReordering fs back swaps
+reordering-made fs back wanted swaps is range few none order =
     let long = ap length is ∙ length-filled back 0 (somes fs) in
     record {
       range = subst (λ n. SwapsInRange n swaps) long range;
       order = ap (λ n. reordered (range_with_len 0 n) swaps) (sym long) ∙ order ∙ is;
       none = λ e. none (is ∙ e ∙ ap (range_with_len 0) (sym long));
+      few = subst (λ n. length swaps ≤ n) long few;
     }

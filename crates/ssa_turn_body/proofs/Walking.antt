@@ -222,6 +222,7 @@ module _ (p : Path) (o : Content) (cs : List Child) (old : List Step) (done : Li
             one.saying;
         once = once-child p (element_view d.0) steps steps2 one.once;
         writable = one.writable;
+        lean = one.lean;
       } in (
         leading-then p (led o cs []) (led o cs done) (led o cs (done ++ d ∷ [])) old steps steps2 joins-here leading step (places-here steps2 one.once),
         among-here steps2 one.once,

@@ -21,6 +21,7 @@ pub record IsEditBetween (cs ds : List Child) (fs : List (Option ℕ)) (s : Chil
   pub gone_named : named_in s.gone ≡ going s (elements cs)
   pub come : s.come.places.items ≡ nones 0 fs
   pub come_named : named_in s.come ≡ fresh fs (elements ds)
+  pub few : length s.before.items ≤ length cs
   pub after : s.after.items ≡ []
   pub order_before : path_view s.order.before.items ≡ told_unless (is_none s.before.items) (elements cs)
   pub order_after : path_view s.order.after.items ≡ told_unless (is_none s.before.items) (elements ds)

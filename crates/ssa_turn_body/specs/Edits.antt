@@ -49,6 +49,10 @@ edited s ks = remade s (kids s.held.items) ks
 abbrev pub keeps_places : ChildrenEdit → Bool
 keeps_places s = is_none s.before.items && is_none s.after.items
 
+-- no child goes, comes or is exchanged
+abbrev pub is_idle : ChildrenEdit → Bool
+is_idle s = keeps_places s && is_none s.gone.places.items && is_none s.come.places.items
+
 -- an order of elements is told, or nothing
 abbrev pub told_unless : Bool → List Element → List Element
 told_unless true es = []

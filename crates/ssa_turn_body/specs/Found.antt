@@ -1,5 +1,5 @@
 -- Where the children of one place stand among those of another, and the order in which they shall stand.
-use Rattle.std.specs.Prelude.{◌≡◌, ℕ, zero, suc, ◌+◌, ◌<◌, ◌==◌, List, [], ◌∷◌, length, Bool, true, false, not, ◌&&◌, Option, Some, None, is_some, slice_get}
+use Rattle.std.specs.Prelude.{◌≡◌, ℕ, zero, suc, ◌+◌, ◌<◌, ◌≤◌, ◌==◌, List, [], ◌∷◌, length, Bool, true, false, not, ◌&&◌, Option, Some, None, is_some, slice_get}
 use Rattle.std.specs.List.{list_any, range_with_len}
 use Rattle.std.specs.List.Sorted.{SwapsInRange}
 use Rattle.ssa_model.specs.definitions.Kind.{is_among}
@@ -108,8 +108,9 @@ pub record AreMissing (fs : List (Option ℕ)) (cs : List Child) (p : Placed) : 
   pub places : p.places.items ≡ nones 0 fs
   pub named : named_in p ≡ fresh fs (elements cs)
 
--- the exchanges bring what stays into the order of the second children, and there are none where it stands so
+-- the exchanges bring what stays into the order of the second children, no more than there are children, and none where it stands so
 pub record IsReordering (fs back : List (Option ℕ)) (swaps : List (ℕ × ℕ)) : Type 0 where
   pub range : SwapsInRange (length back) swaps
   pub order : reordered (range_with_len 0 (length back)) swaps ≡ filled 0 back (somes fs)
   pub none : filled 0 back (somes fs) ≡ range_with_len 0 (length back) → swaps ≡ []
+  pub few : length swaps ≤ length back

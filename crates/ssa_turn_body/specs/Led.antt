@@ -1,19 +1,18 @@
 -- Changes that lead what a tree tells at and below a path to something else, and nothing besides.
-use Rattle.std.specs.Prelude.{◌≡◌, List, [], ◌∷◌, ◌++◌, Bool, true, false, ◌&&◌, Some, reverse}
+use Rattle.std.specs.Prelude.{◌≡◌, List, [], ◌∷◌, ◌++◌, Bool, true, false, Some, reverse}
 use Rattle.ssa_model.specs.definitions.Path.{Path, under}
 use Rattle.ssa_path.specs.Children.{child_at}
 use Rattle.ssa_path.specs.View.{element_view, path_view}
 use Rattle.ssa_typed.specs.Over.{AreAlikeTrees}
 use Rattle.ssa_typed.specs.Rows.{is_tree}
 use Rattle.ssa_typed.specs.declared.node.Node.{Node}
+use Rattle.ssa_turn_body.specs.Lean.{AreLean}
 use Rattle.ssa_turn_body.specs.Marks.{Child, Marks, marks}
 use Rattle.ssa_turn_body.specs.Once.{AreOnceMore}
-use Rattle.ssa_turn_body.specs.Orders.{is_none}
 use Rattle.ssa_turn_body.specs.Said.{AreTold, contents}
 use Rattle.ssa_turn_body.specs.Steps.{StepsFit, StepsLead}
 use Rattle.ssa_turn_body.specs.Writable.{AreWritable}
 use Rattle.ssa_turn_body.specs.declared.change.PlaceChange.{PlaceChange}
-use Rattle.ssa_turn_body.specs.declared.children.ChildrenEdit.{ChildrenEdit}
 use Rattle.ssa_turn_body.specs.declared.steps.Step.{Step}
 
 -- the second tree tells this at and below the path, and elsewhere what the first does
@@ -32,7 +31,7 @@ pub record AreSaying (p : Path) (before after : Marks) (ss : List Step) : Type 0
   pub back : (v : Node) → is_tree v ≡ true → ((q : Path) → marks v (p ++ q) ≡ before q) → (ts : List Step) (w : Node) → StepsLead ss v ts w
       → AreTold p (contents after) (contents before) (reverse ts)
 
--- such changes are made and stand behind the others, and say nothing twice
+-- such changes are made and stand behind the others, say nothing twice and hold no more than they say
 pub record AreLeading (p : Path) (before after : Marks) (old new : List Step) : Type 0 where
   pub made : List Step
   pub added : new ≡ old ++ made
@@ -40,15 +39,12 @@ pub record AreLeading (p : Path) (before after : Marks) (old new : List Step) : 
   pub saying : AreSaying p before after made
   pub once : AreOnceMore p old new
   pub writable : AreWritable made
+  pub lean : AreLean made
 
 -- a change of the path is put behind the others, unless there is nothing to change
 abbrev pub MayAdd : Bool → Path → PlaceChange → List Step → List Step → Type 0
 MayAdd true p x old new = new ≡ old
 MayAdd false p x old new = (s : Step) × (path_view s.path.items ≡ p) × (s.change ≡ x) × (new ≡ old ++ s ∷ [])
-
--- no child goes, comes or is exchanged
-abbrev pub is_idle : ChildrenEdit → Bool
-is_idle s = is_none s.before.items && is_none s.gone.places.items && is_none s.come.places.items
 
 -- the child of this element, if there is one, is alike
 abbrev pub IsAlikeChild : List Child → Child → Type 0

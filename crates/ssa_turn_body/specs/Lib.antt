@@ -8,6 +8,7 @@ pub mod Descent
 pub mod Edits
 pub mod Found
 pub mod Inner
+pub mod Lean
 pub mod Led
 pub mod Marks
 pub mod Once

@@ -8,6 +8,7 @@ use Rattle.ssa_model.specs.definitions.Takes.{BodyTakes}
 use Rattle.ssa_model.specs.definitions.Valid.{IsRooted}
 use Rattle.ssa_model.specs.laws.RecordWalks.{AreAlike}
 use Rattle.ssa_turn_body.specs.Bodies.{BodyStepsFit, IsBodyTurned}
+use Rattle.ssa_turn_body.specs.Lean.{AreLean}
 use Rattle.ssa_turn_body.specs.Once.{AreOnce}
 use Rattle.ssa_turn_body.specs.Records.{body_told}
 use Rattle.ssa_turn_body.specs.Writable.{AreWritable}
@@ -20,12 +21,13 @@ pub record AreRecorded (s : BodySteps) (b : Body) (t : BodySteps) (c : Body) : T
   pub back : body_told t ≡ body_record c b
   pub leads : c ≡ carry_body (body_told s) b
 
--- the steps fit each tree of the body and say nothing twice, each turn is recorded, and they can be written
+-- the steps fit each tree of the body and say nothing twice, each turn is recorded, they can be written, and they hold no more than they say
 pub record HasBodyRoom (s : BodySteps) (b : Body) : Type 0 where
   pub fits : BodyStepsFit s b
   pub once : AreOnce s.steps.items
   pub turns : (t : BodySteps) (c : Body) → IsBodyTurned s b t c → AreRecorded s b t c
   pub writable : AreWritable s.steps.items
+  pub lean : AreLean s.steps.items
 
 -- a turn leaves steps that serve the way back
 abbrev pub TurnsKeepRoom : Type 0

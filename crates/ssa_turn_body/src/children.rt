@@ -101,7 +101,7 @@ pub struct ChildrenEdit {
 }
 
 impl ChildrenEdit {
-    ghost use Rattle.ssa_turn_body.specs.Edits.{EditFitsIn, EditGivesIn};
+    ghost use Rattle.ssa_turn_body.specs.Edits.{is_idle, EditFitsIn, EditGivesIn};
 
     /// What goes, comes and moves, and the room: nothing else is kept. Takes no memory.
     pub fn into_parts(
@@ -136,6 +136,16 @@ impl ChildrenEdit {
             room,
         } = self;
         (before, gone, come, after, order, held, out, room)
+    }
+
+    /// Whether no child goes, comes or is exchanged. Takes no memory.
+    pub fn is_idle(&self) -> bool
+        ensures { result ≡ is_idle self.now }
+    {
+        self.before.is_empty()
+            && self.after.is_empty()
+            && self.gone.places.is_empty()
+            && self.come.places.is_empty()
     }
 
     // Makes the edit, which becomes the one that leads back.

@@ -1,5 +1,5 @@
 //! Exchanges of two places that bring a list into another order.
-ghost use Rattle.std.specs.Prelude.{◌≡◌, [], length, IfOk};
+ghost use Rattle.std.specs.Prelude.{◌≡◌, ◌≤◌, [], length, IfOk};
 ghost use Rattle.std.specs.List.{range_with_len};
 ghost use Rattle.std.specs.List.Sorted.{SwapsInRange};
 ghost use Rattle.ssa_turn_body.specs.Orders.{reordered, AreWithin, AreDistinct};
@@ -19,12 +19,13 @@ fn numbers(alloc: Global, count: usize) -> Result<Vec<usize>, AllocError>
 
 /// The exchanges that put at each place what stood at the place that is wanted there.
 ///
-/// One pass over the places; what stands where it is wanted is not exchanged, so there are none where
-/// all does.
+/// One pass over the places, of which each is exchanged once at most; what stands where it is wanted is
+/// not exchanged, so there are none where all does.
 pub fn exchanges_between(alloc: Global, wanted: &[usize]) -> Result<Vec<(usize, usize)>, AllocError>
     requires within { AreWithin (length wanted.now) wanted.now }
     requires apart { AreDistinct wanted.now }
     ensures range { IfOk result (λ v. SwapsInRange (length wanted.now) v.items) }
+    ensures few { IfOk result (λ v. length v.items ≤ length wanted.now) }
     ensures none { IfOk result (λ v. wanted.now ≡ range_with_len 0 (length wanted.now) → v.items ≡ []) }
     ensures order { IfOk result (λ v. reordered (range_with_len 0 (length wanted.now)) v.items ≡ wanted.now) }
 {

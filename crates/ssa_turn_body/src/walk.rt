@@ -5,7 +5,8 @@ ghost use Rattle.ssa_path.specs.Listing.{way_view};
 ghost use Rattle.ssa_path.specs.View.{element_view, path_view};
 ghost use Rattle.ssa_typed.specs.Over.{AreAlikeBelow, AreAlikeTrees};
 ghost use Rattle.ssa_typed.specs.Rows.{are_trees, below, is_tree, leaf_content, own_content};
-ghost use Rattle.ssa_turn_body.specs.Led.{is_idle, AreLeading, IsAlikeChild, IsChildLed, MayAdd};
+ghost use Rattle.ssa_turn_body.specs.Edits.{is_idle};
+ghost use Rattle.ssa_turn_body.specs.Led.{AreLeading, IsAlikeChild, IsChildLed, MayAdd};
 ghost use Rattle.ssa_turn_body.specs.Marks.{kids, marks, may_stand, with_order, TellAlike};
 ghost use Rattle.ssa_turn_body.specs.Said.{is_swapped};
 ghost use Rattle.ssa_turn_body.specs.Told.{from_place};
@@ -93,7 +94,7 @@ fn push_edit(
 ) -> Result<(), AllocError>
     ensures { OnOk result (MayAdd (is_idle edit.value) (way_view way.now) (PlaceChange.Children edit) steps.old.items steps.new.items) }
 {
-    if edit.before.is_empty() && edit.gone.places.is_empty() && edit.come.places.is_empty() {
+    if edit.is_idle() {
         return Ok(());
     }
     push_step(alloc, way, PlaceChange::Children(edit), steps)?;

@@ -1,5 +1,6 @@
 pub mod OneSort
 pub mod AnyTree
+pub mod AsMany
 pub mod BodyFits
 pub mod Building
 pub mod Collecting
@@ -35,13 +36,16 @@ pub mod OverNodes
 pub mod Overlaying
 pub mod Pairs
 pub mod Parting
+pub mod Placed
 pub mod Reached
 pub mod References
 pub mod Refilling
 pub mod Repeating
+pub mod Rising
 pub mod Restricting
 pub mod Rooted
 pub mod RootedBodies
+pub mod SameItems
 pub mod SameMembers
 pub mod SameTrees
 pub mod Showing

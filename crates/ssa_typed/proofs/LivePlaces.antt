@@ -1,11 +1,12 @@
 -- The live places of a configuration's elements.
 use Rattle.std.proofs.Common.{◌≡◌, ℕ, zero, suc, ◌+◌, ◌<◌, ◌≤◌, List, [], ◌∷◌, ◌++◌, length, get_or, take, drop, map, Bool, true, false, ◌==◌, cond, Option, Some, None, Err, Ok, Result, Less, Equal, Greater, refl, sym, ap, subst, ◌∙◌, arith, tests, true≢false}
+use Rattle.std.specs.Prelude.{is_some}
 use Rattle.std.specs.List.{All}
 use Rattle.std.specs.List.Sorted.{IsBinarySearchResult, IsNonDecreasingBy, IsPermutation}
 use Rattle.std.specs.Ordering.{nat_cmp, ordering_index}
 use Rattle.std.proofs.lemmas.Bool.Decides.{nat_tests}
 use Rattle.std.proofs.lemmas.List.{drop_more, get_or-map, length-map, map-append, take_all}
-use Rattle.std.proofs.lemmas.List.Elements.{All-head, All-tail}
+use Rattle.std.proofs.lemmas.List.Elements.{All-head, All-push, All-tail}
 use Rattle.std.proofs.lemmas.List.Sorted.{All-permutation, IsPermutation-map, IsPermutation-sym}
 use Rattle.ssa_model.specs.definitions.Path.{Element, same_element}
 use Rattle.ssa_model.proofs.Fitting.{same_element-true}
@@ -56,6 +57,27 @@ placed-more cs ds i d o found more lt is at h pushed =
     pushed ∙ (λ j. h j ++ sym at j ∷ [])
     ∙ sym (map-append (λ (x : Child). child_at (element_view x.0) (places cs)) (take i ds) (d ∷ []))
     ∙ sym (ap (live_places cs) (taken-at ds i d lt is))
+
+-- what is told of a child is the place of its own element
+pub told-at : (cs ds : List Child) (i : ℕ) (d : Child) (o : Option ℕ) (found : List (Option ℕ)) → i < length ds → d ≡ get_or ds i d → found ≡ live_places cs ds
+    → o ≡ get_or found i o → child_at (element_view d.0) (places cs) ≡ o
+told-at cs ds i d o found lt is told read =
+    let f = λ (x : Child). child_at (element_view x.0) (places cs) in
+    ap f is ∙ sym (get_or-map f ds i d o lt) ∙ sym (ap (λ l. get_or l i o) told) ∙ sym read
+
+-- what is read within is read, whatever would be without
+pub read-alike : (found : List (Option ℕ)) (i : ℕ) → i < length found → get_or found i None ≡ get_or found i (get_or found i None)
+read-alike found i lt =
+    let o = get_or found i None in
+    (first-left _ _ _ _ (sym (drop_more found i None lt) ∙ drop_more found i o lt)).0
+
+-- one more is found
+pub found-on : (found : List (Option ℕ)) (i : ℕ) → i < length found → is_some (get_or found i None) ≡ true
+    → All (λ o. is_some o ≡ true) (take i found) → All (λ o. is_some o ≡ true) (take (i + 1) found)
+found-on found i lt there h =
+    let o = get_or found i None in
+    subst (All (λ o. is_some o ≡ true)) (sym (taken-at found i o lt (read-alike found i lt)))
+    (All-push (λ o. is_some o ≡ true) (take i found) o h there)
 
 -- where all are told
 pub all-placed : (cs ds : List Child) (i : ℕ) (found : List (Option ℕ)) → length ds ≤ i → found ≡ live_places cs (take i ds) → found ≡ live_places cs ds

@@ -63,9 +63,3 @@ standing-order cs ds lent is lent_is rise = record {
   rise = ap (λ l. rises (elements l)) lent_is ∙ rise;
   same = λ e. ap (child_at e) (lent_is ∙ sym is);
 }
-
--- a child alone is in order
-pub few-rise : (cs : List (Elem × Node)) → length cs < 2 → rises (elements cs) ≡ true
-few-rise [] lt = refl
-few-rise (c ∷ []) lt = refl
-few-rise (c ∷ d ∷ cs) lt = absurd (omega arith)

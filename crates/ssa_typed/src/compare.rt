@@ -20,6 +20,7 @@ use crate::node::{Leaf, Node};
 use crate::ordered::{Ordered, items_in_order};
 use crate::points::{Collected, collect_child};
 use crate::same_ends::between_same;
+use crate::same_items::are_same_items;
 use ssa_path::combine::push_filled;
 use ssa_path::element::Elem;
 use ssa_path::field_set::FieldSet;
@@ -252,7 +253,8 @@ fn push_branches(
 }
 
 // Adds what differs in a list that both trees have. Items that are the same at both ends of the lists
-// are passed by, so that only those between them are put in order.
+// are passed by, so that only those between them are put in order; and of a part, which mostly repeats what is there, these only
+// where they are not the same in another order.
 #[cycle(differing)]
 fn push_items(
     alloc: Global,
@@ -269,6 +271,9 @@ fn push_items(
 {
     let (own, others) = between_same(child.1.children(), after.children());
     if own.is_empty() && others.is_empty() {
+        return Ok(());
+    }
+    if matches!(scope, Scope::Part) && are_same_items(alloc, own, others)? {
         return Ok(());
     }
     let parts = differing_items(alloc, scope, &child.1, after, own, others)?;

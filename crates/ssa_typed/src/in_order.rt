@@ -8,8 +8,10 @@ ghost use Rattle.ssa_typed.specs.Rows.{are_apart};
 
 use crate::keyed::by_keys;
 use crate::node::Node;
+use ssa_path::children::order_at;
 use ssa_path::element::Elem;
 use std::alloc::{AllocError, Global};
+use std::cmp::Ordering;
 
 // Whether the children are so many, and their order at first so far from that of their elements, that
 // numbers for them are worth the making.
@@ -89,6 +91,20 @@ pub fn stand_alike(own: &[(Elem, Node)], others: &[(Elem, Node)]) -> bool
     for (i, child) in own.iter().enumerate() {
         if !child.0.is_same(&others[i].0) {
             return false;
+        }
+    }
+    true
+}
+
+/// Whether the elements of these children rise. Takes no memory; where the last ones do not, it tells so at once.
+pub(crate) fn elements_rise(children: &[(Elem, Node)]) -> bool
+    ensures { result ≡ true → rises (elements children.now) ≡ true }
+{
+    let mut place = children.len();
+    while place > 0 {
+        match order_at(children, place - 1, children, place) {
+            Some(Ordering::Less) => place -= 1,
+            _ => return false,
         }
     }
     true

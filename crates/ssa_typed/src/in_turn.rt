@@ -1,10 +1,9 @@
 //! The children of a configuration's place that the live place has too, in the configuration's order.
 ghost use Rattle.std.specs.Prelude.{◌≡◌, filter, true, IfOk};
 ghost use Rattle.ssa_path.specs.Children.{elements};
-ghost use Rattle.ssa_typed.specs.MergedOrder.{is_new, is_old, AreTurns};
+ghost use Rattle.ssa_typed.specs.MergedOrder.{is_new, is_old, live_places, AreTurns};
 ghost use Rattle.ssa_typed.specs.Rows.{are_apart};
 
-use crate::live_places::live_places;
 use crate::node::Node;
 use indexmap::IndexSet;
 use ssa_path::element::Elem;
@@ -21,21 +20,22 @@ pub(crate) struct InTurn {
     pub new: Vec<(Elem, Node)>,
 }
 
-/// The configuration's children, sorted out by the live ones.
+/// The configuration's children, sorted out by the live ones, where the live place of each is found.
 ///
-/// The set holds numbers of places, so that no text is hashed, however the elements are chosen. Takes about n log n comparisons.
+/// The set holds numbers of places, so that no text is hashed, however the elements are chosen.
 pub(crate) fn in_turn(
     alloc: Global,
     live: &[(Elem, Node)],
     config: Vec<(Elem, Node)>,
+    found: Vec<Option<usize>>,
 ) -> Result<InTurn, AllocError>
     requires live { are_apart (elements live.now) ≡ true }
     requires config { are_apart (elements config.items) ≡ true }
+    requires found { found.items ≡ live_places live.now config.items }
     ensures own { IfOk result (λ s. s.own.items ≡ filter (is_old live.now) config.items) }
     ensures new { IfOk result (λ s. s.new.items ≡ filter (is_new live.now) config.items) }
     ensures turns { IfOk result (λ s. AreTurns live.now config.items s.places.keys s.own.items) }
 {
-    let found = live_places(alloc, live, &config)?;
     let most = live.len().min(config.len());
     let mut places = IndexSet::with_capacity(alloc, most)?;
     let mut own = Vec::with_capacity(alloc, most)?;

@@ -8,7 +8,7 @@ ghost use Rattle.ssa_model.specs.laws.Faultless.{KeysFit};
 
 use ssa_json::value::Json;
 use ssa_members::Members;
-use ssa_path::keys::Keys;
+use ssa_path::keys::{Keys, SharedKeys};
 use ssa_schema::key_fields::key_members;
 use ssa_schema::kind::Kind;
 use std::alloc::{AllocError, Global};
@@ -19,14 +19,14 @@ pub fn keys_of(
     names: &[String],
     fields: &Members<Kind>,
     members: &Members<Json>,
-) -> Result<Keys, AllocError>
+) -> Result<SharedKeys, AllocError>
     requires names { are_key_names (names_view names.now) ≡ true }
     requires fits { KeysFit (names_view names.now) (fields_view fields.now.entries) (members_view members.now.entries) }
     ensures { IfOk result (λ k. k ≡ key_scalars (names_view names.now) (members_view members.now.entries)) }
 {
     let _fields = fields;
-    match Keys::new(alloc, key_members(alloc, names, members)?)? {
-        Some(keys) => Ok(keys),
+    match Keys::new(key_members(alloc, names, members)?) {
+        Some(keys) => SharedKeys::of(alloc, keys),
         None => unreachable!(),
     }
 }

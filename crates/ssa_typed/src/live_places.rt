@@ -1,5 +1,5 @@
 //! At which live places the elements of a configuration's children stand.
-ghost use Rattle.std.specs.Prelude.{◌≡◌, ◌==◌, false, map, true, IfNone, IfOk, IfSome, Some};
+ghost use Rattle.std.specs.Prelude.{◌≡◌, ◌==◌, false, is_some, map, true, IfNone, IfOk, IfSome, Some};
 ghost use Rattle.std.specs.List.{All};
 ghost use Rattle.std.specs.List.Sorted.{IsNonDecreasingBy};
 ghost use Rattle.ssa_path.specs.Children.{child_at, elements};
@@ -18,7 +18,10 @@ use std::alloc::{AllocError, Global};
 const FEW_LIVE: usize = 32;
 
 // In a longer list so many elements are looked for among all.
-const MOST_SCANS: usize = 2;
+const MOST_SCANS: usize = 1;
+
+// By about so many elements it is told what the texts of all begin with.
+const SAMPLES: usize = 16;
 
 // Whether the live child at a place has this element.
 #[inline(always)]
@@ -52,6 +55,14 @@ fn place_among(live: &[(Elem, Node)], element: &Elem) -> Option<usize>
     scan(live, element)
 }
 
+// Beside which place the first element is looked for: the last one, where it stands there, as in the reverse order.
+fn first_beside(live: &[(Elem, Node)], config: &[(Elem, Node)]) -> usize {
+    match (live, config) {
+        ([.., last], [first, ..]) if first.0.is_same(&last.0) => live.len(),
+        _ => 0,
+    }
+}
+
 // The live places, each looked for beside the last one and then among all: where these are few, or where most of those of the
 // configuration stand side by side, in the live order or the reverse one.
 fn places_scanned(
@@ -63,7 +74,8 @@ fn places_scanned(
     ensures { IfOk result (λ told. IfSome told (λ v. v.items ≡ live_places live.now config.now)) }
 {
     let mut found = Vec::with_capacity(alloc, config.len())?;
-    let (mut last, mut scans) = (0, 0);
+    let mut last = first_beside(live, config);
+    let mut scans = 0;
     for child in config {
         if let Some(place) = place_beside(live, last, &child.0) {
             found.push(Some(place))?;
@@ -81,11 +93,17 @@ fn places_scanned(
     Ok(Some(found))
 }
 
-// How many bytes the texts of all these elements begin with alike, where they have such texts.
-fn count_shared(first: &Elem, live: &[(Elem, Node)], config: &[(Elem, Node)]) -> Option<usize> {
-    let start = shared_start(first, live)?;
-    let other = shared_start(first, config)?;
-    Some(start.len().min(other.len()))
+// How many bytes the texts of these elements begin with alike, as far as some of them tell, where these have such texts.
+fn count_shared(first: &Elem, children: &[(Elem, Node)]) -> Option<usize> {
+    let mut shared = usize::MAX;
+    let step = children.len() / SAMPLES + 1;
+    let mut place = 0;
+    while place < children.len() {
+        let start = shared_start(first, &children[place..place + 1])?;
+        shared = shared.min(start.len());
+        place = place.saturating_add(step);
+    }
+    Some(shared)
 }
 
 // The numbers of the live elements behind so many bytes, in order, each with its place.
@@ -147,9 +165,11 @@ fn places_numbered(
     let [(first, _), ..] = live else {
         return Ok(None);
     };
-    let Some(skip) = count_shared(first, live, config) else {
+    let (Some(live_shared), Some(shared)) = (count_shared(first, live), count_shared(first, config))
+    else {
         return Ok(None);
     };
+    let skip = live_shared.min(shared);
     let numbered = numbered_places(alloc, first, skip, live)?;
     let mut found = Vec::with_capacity(alloc, config.len())?;
     for child in config {
@@ -198,4 +218,16 @@ pub(crate) fn live_places(
         return Ok(found);
     }
     places_searched(alloc, live, config)
+}
+
+/// Whether each of the elements was found.
+pub(crate) fn all_found(places: &[Option<usize>]) -> bool
+    ensures { result ≡ true → All (λ o. is_some o ≡ true) places.now }
+{
+    for place in places {
+        if place.is_none() {
+            return false;
+        }
+    }
+    true
 }

@@ -7,7 +7,7 @@ ghost use Rattle.ssa_typed.specs.InOrder.{IsInOrder};
 ghost use Rattle.ssa_typed.specs.Ordered.{lent_children};
 ghost use Rattle.ssa_typed.specs.Rows.{are_apart, below, is_tree};
 
-use crate::in_order::{find_in_order, in_order};
+use crate::in_order::{elements_rise, find_in_order, in_order};
 use crate::node::Node;
 use ssa_path::children::find_child;
 use ssa_path::element::Elem;
@@ -66,7 +66,7 @@ impl<'a> Ordered<'a> {
     }
 }
 
-/// Items of a list in the order of their elements. One alone stands so, and takes no memory.
+/// Items of a list in the order of their elements. Where they stand so, no memory is taken.
 #[inline(always)]
 pub(crate) fn items_in_order(
     alloc: Global,
@@ -75,7 +75,7 @@ pub(crate) fn items_in_order(
     requires { are_apart (elements items.now) ≡ true }
     ensures { IfOk result (λ o. IsInOrder items.now (lent_children o)) }
 {
-    if items.len() < 2 {
+    if elements_rise(items) {
         return Ok(Ordered::AsTheyStand(items));
     }
     let sorted = in_order(alloc, items)?;

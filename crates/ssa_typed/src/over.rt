@@ -1,12 +1,15 @@
 //! A configuration put over a live tree, in the configuration's own memory.
-ghost use Rattle.std.specs.Prelude.{◌≡◌, drop, true, OnOk};
+ghost use Rattle.std.specs.Prelude.{◌≡◌, drop, is_some, length, true, OnOk};
+ghost use Rattle.std.specs.List.{All};
 ghost use Rattle.ssa_path.specs.Children.{elements, heads_order, rises};
+ghost use Rattle.ssa_typed.specs.MergedOrder.{live_places};
 ghost use Rattle.ssa_typed.specs.Over.{AreAlikeBelow, AreAlikeTrees, AreOver, AreOverInOrder, IsOver};
 ghost use Rattle.ssa_typed.specs.Rows.{are_apart, are_trees, is_tree};
 
 use crate::copy::push_copy;
 use crate::in_order::stand_alike;
 use crate::in_turn::in_turn;
+use crate::live_places::{all_found, live_places};
 use crate::node::Node;
 use ssa_path::element::Elem;
 use std::alloc::{AllocError, Global};
@@ -36,6 +39,33 @@ fn over_alike(
     Ok(())
 }
 
+// The configuration's children over the live ones, which have the same elements in another order: each stays at its own place, over the
+// live child of its element.
+#[cycle(over)]
+fn over_placed(
+    alloc: Global,
+    live: &[(Elem, Node)],
+    config: &mut Vec<(Elem, Node)>,
+    places: &[Option<usize>],
+) -> Result<(), AllocError>
+    requires live { are_trees live.now ≡ true }
+    requires config { are_trees config.old.items ≡ true }
+    requires apart { are_apart (elements live.now) ≡ true }
+    requires config_apart { are_apart (elements config.old.items) ≡ true }
+    requires alike { AreAlikeBelow live.now config.old.items }
+    requires places { places.now ≡ live_places live.now config.old.items }
+    requires found { All (λ o. is_some o ≡ true) places.now }
+    requires many { length live.now ≡ length config.old.items }
+    ensures { OnOk result (AreOver live.now config.old.items config.new.items) }
+{
+    for (i, place) in places.iter().enumerate() {
+        let place = place.unwrap();
+        let own = &mut config[i];
+        over_node(alloc, &live[place].1, &mut own.1)?;
+    }
+    Ok(())
+}
+
 // The live children at their places, but that the places of those that the configuration has too are refilled with these in its
 // order, each over the live child of its own element; and behind them what the configuration alone has, in its order. What the
 // configuration has is moved, and what it lacks is copied.
@@ -44,15 +74,17 @@ fn over_found(
     alloc: Global,
     live: &[(Elem, Node)],
     config: &mut Vec<(Elem, Node)>,
+    found: Vec<Option<usize>>,
 ) -> Result<(), AllocError>
     requires live { are_trees live.now ≡ true }
     requires config { are_trees config.old.items ≡ true }
     requires apart { are_apart (elements live.now) ≡ true }
     requires config_apart { are_apart (elements config.old.items) ≡ true }
     requires alike { AreAlikeBelow live.now config.old.items }
+    requires found { found.items ≡ live_places live.now config.old.items }
     ensures { OnOk result (AreOver live.now config.old.items config.new.items) }
 {
-    let parts = in_turn(alloc, live, mem::replace(config, Vec::new(alloc)))?;
+    let parts = in_turn(alloc, live, mem::replace(config, Vec::new(alloc)), found)?;
     let places = parts.places;
     let fill = places.as_slice();
     let mut own = VecDeque::from(parts.own);
@@ -93,7 +125,11 @@ fn over_items(
     if stand_alike(live, config) {
         return over_alike(alloc, live, config);
     }
-    over_found(alloc, live, config)
+    let found = live_places(alloc, live, config)?;
+    if live.len() == config.len() && all_found(&found) {
+        return over_placed(alloc, live, config, &found);
+    }
+    over_found(alloc, live, config, found)
 }
 
 /// How the next children compare: where the live ones have no more, the configuration's is first.

@@ -18,7 +18,7 @@ use ssa_json::value::Json;
 use ssa_members::{Members, Name};
 use ssa_path::element::Elem;
 use ssa_path::element_text::key_name;
-use ssa_path::keys::Keys;
+use ssa_path::keys::SharedKeys;
 use ssa_schema::kind::Kind;
 use ssa_schema::{Found, Misfit, field_name, is_other, keys_misfit, repeated_item, value_fault};
 use std::alloc::{AllocError, Global};
@@ -38,7 +38,7 @@ fn below_name(alloc: Global, found: Found, name: &str) -> Result<Found, AllocErr
 }
 
 // A fault below the item of a key, seen from the list.
-fn below_key(alloc: Global, found: Found, own: Keys) -> Result<Found, AllocError>
+fn below_key(alloc: Global, found: Found, own: SharedKeys) -> Result<Found, AllocError>
     ensures { IfOk result (λ f. (inner : Path → List kinds.FaultAt) → Finds (Some found) inner → Finds (Some f) (λ p. inner (p ++ key own ∷ []))) }
 {
     found.below(key_name(alloc, own.members())?)

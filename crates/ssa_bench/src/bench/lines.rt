@@ -3,12 +3,12 @@ ghost use Rattle.std.specs.Prelude.{◌≡◌, ◌||◌, ◌≤◌, ◌<◌, IfO
 ghost use Rattle.ssa_model.specs.definitions.Answers.{lone_state};
 ghost use Rattle.ssa_model.specs.definitions.BenchText.{whole_object};
 ghost use Rattle.ssa_model.specs.definitions.Formats.{can_tell_state, tells_parts};
-ghost use Rattle.ssa_model.specs.definitions.History.{appended, past_len, present};
+ghost use Rattle.ssa_model.specs.definitions.History.{appended, past_len, present, preceded};
 ghost use Rattle.ssa_model.specs.definitions.Json.{compact, same_text};
 ghost use Rattle.ssa_model.specs.definitions.MemberNames.{has_rising_names};
 ghost use Rattle.ssa_model.specs.definitions.ToldParts.{has_subresource, tells_subresource};
-ghost use Rattle.ssa_model.specs.laws.LineByLine.{at_place, preceded, shown_in};
-ghost use Rattle.ssa_model.specs.laws.RecordedBenches.{present_in};
+ghost use Rattle.ssa_model.specs.laws.LineByLine.{at_place, shown_in};
+ghost use Rattle.ssa_model.specs.definitions.BenchOfRecords.{present_in};
 ghost use Rattle.ssa_json.specs.Readings.{readings};
 ghost use Rattle.ssa_json.specs.View.{view};
 ghost use Rattle.ssa_file.specs.Heads.{head_depth, head_view};

@@ -7,7 +7,7 @@ ghost use Rattle.ssa_model.specs.definitions.History.{past_len, present};
 ghost use Rattle.ssa_model.specs.definitions.Json.{compact, same_text};
 ghost use Rattle.ssa_model.specs.definitions.Limits.{most_past};
 ghost use Rattle.ssa_model.specs.definitions.Valid.{IsValidState};
-ghost use Rattle.ssa_model.specs.laws.BenchFiles.{keeps_order, lone_in};
+ghost use Rattle.ssa_model.specs.definitions.BenchOfStates.{keeps_order, lone_in};
 ghost use Rattle.ssa_json.specs.Readings.{readings};
 ghost use Rattle.ssa_json.specs.View.{view};
 ghost use Rattle.ssa_merge.specs.States.{state_view};

@@ -50,6 +50,10 @@ future_len t = length t.later - t.place
 abbrev pub appended : Timeline → Label → State → Timeline
 appended t label s = record { first = t.first; later = take t.place t.later ++ record { label = label; state = s } ∷ []; place = t.place + 1 }
 
+-- a new state before all others, which was the first of them, and the place goes there
+abbrev pub preceded : Timeline → Label → State → Timeline
+preceded t label s = record { first = s; later = record { label = label; state = t.first } ∷ t.later; place = 0 }
+
 abbrev pub moved_to : Timeline → ℕ → Timeline
 moved_to t n = record { first = t.first; later = t.later; place = n }
 

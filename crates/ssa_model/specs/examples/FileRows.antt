@@ -11,7 +11,7 @@ use Rattle.ssa_model.specs.definitions.Operations.{apply_target}
 use Rattle.ssa_model.specs.definitions.History.{Label, applied, updated, stripped, Step, Bench, present, with_timeline}
 use Rattle.ssa_model.specs.definitions.Answers.{Command, apply, undo, run}
 use Rattle.ssa_model.specs.definitions.BenchText.{line, head_of, head_json, state_json, first_json, step_json, bench_values, bench_text}
-use Rattle.ssa_model.specs.laws.BenchFiles.{values_bench, bench_in}
+use Rattle.ssa_model.specs.definitions.BenchOfStates.{values_bench, bench_in}
 use Rattle.ssa_model.specs.examples.Sample.{main_by, sample_kind, sample_schema}
 use Rattle.ssa_model.specs.examples.Rows.{new_bench, with_replicas, m1, m2}
 use Rattle.ssa_model.specs.examples.EntryRows.{with_uid}

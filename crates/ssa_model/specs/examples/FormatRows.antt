@@ -13,8 +13,8 @@ use Rattle.ssa_model.specs.definitions.Replies.{number_json}
 use Rattle.ssa_model.specs.definitions.BenchText.{Format, states, records, parts, depths, format_number, line, head_of, whole_object, first_json, step_json}
 use Rattle.ssa_model.specs.definitions.RecordedBench.{record_head, record_line}
 use Rattle.ssa_model.specs.definitions.Formats.{file_values, file_text, IsFile}
-use Rattle.ssa_model.specs.laws.RecordedBenches.{move_fault_number}
-use Rattle.ssa_model.specs.laws.Formats.{FileHead, of_states, of_records, file_head, file_bench_in, file_fault}
+use Rattle.ssa_model.specs.definitions.BenchFaults.{move_fault_number, file_fault}
+use Rattle.ssa_model.specs.definitions.BenchOfFile.{FileHead, of_states, of_records, file_head, file_bench_in}
 use Rattle.ssa_model.specs.examples.Sample.{string_json}
 use Rattle.ssa_model.specs.examples.Rows.{m1}
 use Rattle.ssa_model.specs.examples.FileRows.{readings_of, applied_step, filed}

@@ -103,7 +103,7 @@ OrderOwnsNothing =
     × (table_after cs ≡ (m1, host_list (codes "a" ∷ codes "b" ∷ []), codes "t1") ∷ [])
     × (hosts_after (cs ++ undo ∷ []) ≡ codes "v:\"a\"" ∷ codes "v:\"b\"" ∷ [])
 
--- live items keep their order, and the configuration's own follow
+-- the place of an item that both have stays, and the item of the configuration alone follows
 abbrev pub LiveHostsFirst : Type 0
 LiveHostsFirst =
     let cs = apply (main_by m1) false (codes "t1") (with_hosts (codes "a" ∷ codes "b" ∷ [])) ∷ apply (main_by m2) false (codes "t2") (with_hosts (codes "c" ∷ codes "a" ∷ []))

@@ -14,7 +14,8 @@ use Rattle.ssa_model.specs.definitions.Operations.{State}
 use Rattle.ssa_model.specs.definitions.RecordReading.{IsReadState}
 use Rattle.ssa_model.specs.definitions.Valid.{IsValidState, KeepsOrder}
 use Rattle.ssa_model.specs.definitions.RecordedBench.{record_head, record_line, recorded_values, recorded_text}
-use Rattle.ssa_model.specs.laws.RecordedBenches.{is_move_shape, recorded_bench, recorded_bench_in, move_fault_number, line_fault, recorded_fault}
+use Rattle.ssa_model.specs.definitions.BenchFaults.{is_move_shape, move_fault_number, line_fault, recorded_fault}
+use Rattle.ssa_model.specs.definitions.BenchOfRecords.{recorded_bench, recorded_bench_in}
 use Rattle.ssa_model.specs.laws.RecordedMoves.{IsReadBackState, TellsLines, IsRecordLineOf}
 use Rattle.ssa_model.specs.examples.Sample.{sample_kind, sample_schema, string_json, number_json}
 use Rattle.ssa_model.specs.examples.FileRows.{feed, after, one_apply, file_readings, value_among, readings_of, applied_step, filed}

@@ -1,35 +1,24 @@
--- A bench file read line by line: what stands next, what is taken of it, and the first fault. What is read so is what is taken of the
--- whole text, and its fault where nothing is.
-use Rattle.std.specs.Prelude.{◌≡◌, ℕ, zero, suc, ◌+◌, ◌-◌, List, [], ◌∷◌, length, drop, Option, Some, None, Result, Ok, Err}
+-- A bench file read line by line: what is taken of each line, and the first fault. What is read so is what is taken of the whole text,
+-- and its fault where nothing is.
+use Rattle.std.specs.Prelude.{◌≡◌, ℕ, zero, suc, ◌-◌, List, Option, Some, None, Result, Ok, Err}
 use Rattle.ssa_model.specs.definitions.Limits.{most_bench_bytes}
 use Rattle.ssa_model.specs.definitions.Json.{Text, Json}
-use Rattle.ssa_model.specs.definitions.Lines.{whole_lines}
 use Rattle.ssa_model.specs.definitions.Operations.{State}
 use Rattle.ssa_model.specs.definitions.Readings.{Readings}
 use Rattle.ssa_model.specs.definitions.Schema.{Schema}
-use Rattle.ssa_model.specs.definitions.History.{Label, Step, Timeline, Bench, appended, moved_to, present, with_timeline}
+use Rattle.ssa_model.specs.definitions.History.{Label, Step, Timeline, Bench, appended, moved_to, preceded, present, with_timeline}
 use Rattle.ssa_model.specs.definitions.BenchText.{Format}
-use Rattle.ssa_model.specs.laws.BenchFiles.{Head, spelled_value, schema_in, lone_in, step_in}
-use Rattle.ssa_model.specs.laws.RecordedBenches.{Counts, present_in, lines_within, MoveFault, no_move_text, told_value}
-use Rattle.ssa_model.specs.laws.Formats.{FileHead, of_states, of_records, file_head, file_bench_in, file_fault}
-
--- ---- what stands next
-
--- nothing, no value's line within the room, or a value, with the bytes and the room behind its line
-pub data Next : Type 0 where
-  at_end : Next
-  no_value : Next
-  value_then : Json → List ℕ → ℕ → Next
+use Rattle.ssa_model.specs.definitions.BenchOfStates.{Head, schema_in, lone_in, step_in}
+use Rattle.ssa_model.specs.definitions.BenchOfRecords.{Counts, present_in}
+use Rattle.ssa_model.specs.definitions.BenchFaults.{MoveFault, no_move_text, told_value, file_fault}
+use Rattle.ssa_model.specs.definitions.NextLines.{Next, at_end, no_value, value_then, next_value}
+use Rattle.ssa_model.specs.definitions.BenchOfFile.{FileHead, of_states, of_records, file_head, file_bench_in}
 
 -- ---- how a bench goes along its lines
 
 -- how a move changes a history
 abbrev pub Move : Type 0
 Move = Timeline → Label → State → Timeline
-
--- a new state before all others, which was the first of them, and the place goes there
-abbrev pub preceded : Move
-preceded t label s = record { first = s; later = record { label = label; state = t.first } ∷ t.later; place = 0 }
 
 abbrev pub moved_by : Move → Bench → Label × State → Bench
 moved_by move b m = with_timeline b (move b.timeline m.0 m.1)
@@ -68,16 +57,8 @@ at_last b no_value = Err no_move_text
 at_last b (value_then v ys left) = Err no_move_text
 
 module _ (readings : Readings) where
-  abbrev pub first_value : List ℕ → ℕ → List Text → Next
-  first_value xs room [] = no_value
-  first_value xs room (t ∷ ts) = elim (spelled_value readings t) [ Some v ↦ value_then v (drop (length t + 1) xs) (room - (length t + 1)) | None ↦ no_value ]
-
-  abbrev pub next_value : ℕ → List ℕ → Next
-  next_value room [] = at_end
-  next_value room (x ∷ xs) = first_value (x ∷ xs) room (lines_within room (whole_lines (x ∷ xs)))
-
   abbrev pub with_value : (Json → Reader) → Reader
-  with_value go xs room = after_value go (next_value room xs)
+  with_value go xs room = after_value go (next_value readings room xs)
 
   abbrev pub with_part : {X : Type 0} → (Json → Option X) → (X → Reader) → Reader
   with_part take go = with_value (λ v. after_part go (take v))
@@ -88,7 +69,7 @@ module _ (readings : Readings) where
   along f move go (suc n) b = with_value (λ v. after_move (λ m. along f move go n (moved_by move b m)) (told_value readings f b (present b.timeline) v))
 
   abbrev pub ended_with : Bench → Reader
-  ended_with b xs room = at_last b (next_value room xs)
+  ended_with b xs room = at_last b (next_value readings room xs)
 
   -- the future behind the present state, and the end
   abbrev pub on_from : Counts → Bench → Reader

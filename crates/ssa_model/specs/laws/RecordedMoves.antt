@@ -17,8 +17,8 @@ use Rattle.ssa_model.specs.definitions.Record.{record_of}
 use Rattle.ssa_model.specs.definitions.RecordText.{record_json}
 use Rattle.ssa_model.specs.definitions.RecordReading.{HasReadPaths, IsReadState}
 use Rattle.ssa_model.specs.definitions.RecordedBench.{record_line}
-use Rattle.ssa_model.specs.laws.BenchFiles.{said_label}
-use Rattle.ssa_model.specs.laws.RecordedBenches.{no_move_text, record_does_not_fit, is_move_shape, value_move}
+use Rattle.ssa_model.specs.definitions.BenchOfStates.{said_label}
+use Rattle.ssa_model.specs.definitions.BenchFaults.{no_move_text, record_does_not_fit, is_move_shape, value_move}
 
 -- a valid state whose paths, moments and sets are read back
 pub record IsReadBackState (readings : Readings) (kind : Kind) (v : State) : Type 0 where

@@ -1,6 +1,5 @@
 use Rattle.std.proofs.Common.{length, ap, arith, ◌∙◌}
-use Rattle.ssa_model.specs.definitions.History.{Bench}
-use Rattle.ssa_model.specs.laws.LineByLine.{preceded}
+use Rattle.ssa_model.specs.definitions.History.{Bench, preceded}
 use Rattle.ssa_file.specs.Recording.{format_view}
 use Rattle.ssa_bench.specs.Loading.{ReadsMoves}
 use Rattle.ssa_bench.proofs.LoadedParts.{fault-handed}

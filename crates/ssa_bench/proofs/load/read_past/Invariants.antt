@@ -1,6 +1,6 @@
 use Rattle.std.proofs.Common.{◌≡◌, ◌+◌, length}
-use Rattle.ssa_model.specs.definitions.History.{past_len}
-use Rattle.ssa_model.specs.laws.LineByLine.{along, preceded}
+use Rattle.ssa_model.specs.definitions.History.{past_len, preceded}
+use Rattle.ssa_model.specs.laws.LineByLine.{along}
 use Rattle.ssa_json.specs.Readings.{readings}
 use Rattle.ssa_file.specs.Recording.{format_view}
 use Rattle.ssa_bench.proofs.LoadedMoves.{Went}

@@ -1,5 +1,5 @@
 use Rattle.ssa_json.specs.View.{view}
-use Rattle.ssa_model.specs.laws.BenchFiles.{schema_in}
+use Rattle.ssa_model.specs.definitions.BenchOfStates.{schema_in}
 use Rattle.ssa_bench.specs.Loading.{ReadsPart}
 use Rattle.ssa_bench.proofs.LoadedParts.{part-read, part-unread, fault-handed, taken-no-io}
 use Rattle.ssa_bench.proofs.load.read_schema.Goals as goal

@@ -2,10 +2,10 @@ use Rattle.std.proofs.Common.{◌≡◌, Option, Some, None, codes, option_map, 
 use Rattle.ssa_model.specs.definitions.Json as model
 use Rattle.ssa_model.specs.definitions.Json.{member_of}
 use Rattle.ssa_model.specs.definitions.Commands.{value_in}
-use Rattle.ssa_model.specs.laws.BenchFiles.{object_in}
+use Rattle.ssa_model.specs.definitions.BenchOfStates.{object_in}
 use Rattle.ssa_json.specs.View.{view, members_view}
 use Rattle.ssa_json.specs.Lookups.{view-lookup}
-use Rattle.ssa_json.proofs.Views.{view-Object}
+use Rattle.ssa_json.specs.Views.{view-Object}
 use Rattle.ssa_bench.proofs.state_taking.object_in.Goals as goal
 
 pub returns-in-Some : goal.returns-in-Some

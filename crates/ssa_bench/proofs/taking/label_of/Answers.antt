@@ -1,7 +1,7 @@
 use Rattle.std.proofs.Common.{◌≡◌, Some, true, false, ap, sym, ◌∙◌, option_map}
 use Rattle.ssa_model.specs.definitions.Json.{compact, same_text}
 use Rattle.ssa_model.specs.definitions.Replies.{label_json}
-use Rattle.ssa_model.specs.laws.BenchFiles.{label_in}
+use Rattle.ssa_model.specs.definitions.BenchOfStates.{label_in}
 use Rattle.ssa_json.specs.Readings.{readings}
 use Rattle.ssa_json.specs.View.{view}
 use Rattle.ssa_turn.specs.Histories.{label_view}

@@ -1,6 +1,6 @@
 use Rattle.std.proofs.Common.{sym, subst}
 use Rattle.ssa_json.specs.View.{view}
-use Rattle.ssa_model.specs.laws.BenchFiles.{schema_in}
+use Rattle.ssa_model.specs.definitions.BenchOfStates.{schema_in}
 use Rattle.ssa_lines.specs.declared.loading.LoadFault.{LoadFault}
 use Rattle.ssa_bench.specs.Taking.{IsTaken}
 use Rattle.std.specs.Prelude.{Err}

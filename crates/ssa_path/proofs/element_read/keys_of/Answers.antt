@@ -1,6 +1,5 @@
 use Rattle.std.proofs.Common.{◌≡◌, ◌∷◌, ◌++◌, [], Some, arith, string_bytes, option_map, sym, ap, ◌∙◌}
 use Rattle.std.proofs.lemmas.List.{nil_from_length}
-use Rattle.std.proofs.lemmas.Result.{IfOk-weaker}
 use Rattle.std.specs.Vec.Iter.{into_iter_items}
 use Rattle.ssa_model.specs.definitions.Path.{key}
 use Rattle.ssa_model.specs.definitions.ElementTexts.{key_of}
@@ -31,6 +30,4 @@ returns c =
     (omega (arith, c.in-None.ensures.steps.0, l.name-iterator.rest.ok)) in
     let is = l.invariant ∙ ap (λ es. with_keys (members_view l.found.items) (key_of (json_members es))) none
     ∙ with_keys-all (members_view l.found.items) in
-    IfOk-weaker c.new.result _ _
-    (λ _ same. ap (option_map key) same ∙ key_element-sorted es (members_view l.found.items) c.into_entries-name-items.ensures.ordered is)
-    c.new.ensures
+    ap (option_map key) c.new.ensures ∙ key_element-sorted es (members_view l.found.items) c.into_entries-name-items.ensures.ordered is

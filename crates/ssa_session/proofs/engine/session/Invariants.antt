@@ -8,6 +8,7 @@ invariant-loop-end g l = record {
       (g.W.Sink.contents l.initial.writer) (g.W.Sink.contents l.writer) l.initial.machine l.machine;
   handed_on : g.W.Sink.is_handed_on l.initial.writer ≡ true → g.W.Sink.is_handed_on l.writer ≡ true;
   ends : g.R.Source.ends_met l.initial.reader ≤ g.R.Source.ends_met l.reader;
+  watched : g.T.Watcher.goes l.initial.watcher l.watcher;
 }
 
 abbrev pub decreases-loop-end : goal.decreases-loop-end

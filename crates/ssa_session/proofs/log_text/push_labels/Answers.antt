@@ -2,7 +2,7 @@ use Rattle.std.proofs.Common.{◌++◌, ap, ◌∙◌}
 use Rattle.ssa_model.specs.definitions.Json.{compact, list}
 use Rattle.ssa_model.specs.definitions.Replies.{label_json}
 use Rattle.ssa_turn.specs.Histories.{label_view}
-use Rattle.ssa_json.proofs.ItemTexts.{list-written, items_json-map}
+use Rattle.ssa_model.proofs.ItemTexts.{list-written, items_json-map}
 use Rattle.ssa_session.proofs.log_text.push_labels.Goals as goal
 
 pub returns : goal.returns

@@ -1,7 +1,7 @@
 use Rattle.std.proofs.Common.{◌≡◌, ◌∷◌, ◌++◌, false}
 use Rattle.ssa_model.specs.definitions.Replies.{label_json}
 use Rattle.ssa_turn.specs.Histories.{label_view}
-use Rattle.ssa_json.proofs.ItemTexts.{rest_text}
+use Rattle.ssa_model.proofs.ItemTexts.{rest_text}
 use Rattle.ssa_session.proofs.log_text.push_labels.Given as goal
 
 -- with what is left, the text is whole

@@ -1,7 +1,7 @@
 use Rattle.std.proofs.Common.{◌≡◌, ◌∷◌, ◌++◌, false}
 use Rattle.ssa_model.specs.definitions.Replies.{key_json}
 use Rattle.ssa_merge.specs.Managers.{key_view}
-use Rattle.ssa_json.proofs.ItemTexts.{rest_text}
+use Rattle.ssa_model.proofs.ItemTexts.{rest_text}
 use Rattle.ssa_session.proofs.reply_text.push_managers.Given as goal
 
 -- with what is left, the text is whole

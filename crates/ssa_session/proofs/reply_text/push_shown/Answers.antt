@@ -1,4 +1,4 @@
-use Rattle.ssa_json.proofs.ItemTexts.{joined}
+use Rattle.ssa_model.proofs.ItemTexts.{joined}
 use Rattle.ssa_session.proofs.reply_text.push_shown.Goals as goal
 
 pub returns : goal.returns

@@ -28,4 +28,4 @@ returns c =
     let is = c.deref-2.ensures.value ∙ c.in_ok-wanted.ensures
     ∙ ap (filled 0 c.args.back.now) (c.deref.ensures.value ∙ c.in_ok-told.ensures) in
     let given = c.in_ok-exchanges.ensures in
-    reordering-made c.args.found.now c.args.back.now c.deref-2.result.now c.in_ok-exchanges.exchanges.items is given.range given.none given.order
+    reordering-made c.args.found.now c.args.back.now c.deref-2.result.now c.in_ok-exchanges.exchanges.items is given.range given.few given.none given.order

@@ -11,7 +11,8 @@ use Rattle.ssa_typed.specs.Over.{AreAlikeBelow}
 use Rattle.ssa_typed.specs.Rows.{are_apart, are_trees, below, leaf_content, own_content, rows}
 use Rattle.ssa_typed.proofs.Levels.{level-below}
 use Rattle.ssa_typed.proofs.Sizes.{smaller}
-use Rattle.ssa_turn_body.specs.Led.{AreLeading, IsChildLed, MayAdd, is_idle}
+use Rattle.ssa_turn_body.specs.Edits.{is_idle}
+use Rattle.ssa_turn_body.specs.Led.{AreLeading, IsChildLed, MayAdd}
 use Rattle.ssa_turn_body.specs.Between.{IsEditBetween}
 use Rattle.ssa_turn_body.specs.Found.{AreFound}
 use Rattle.ssa_turn_body.specs.Told.{from_place}

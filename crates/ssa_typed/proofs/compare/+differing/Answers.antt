@@ -1,4 +1,4 @@
-use Rattle.std.proofs.Common.{◌≡◌, ℕ, [], ◌+◌, ◌*◌, ◌<◌, ◌∙◌, ◌&&◌, ap, get_or, length, sym, Some, true, arith, rules, subst₂}
+use Rattle.std.proofs.Common.{◌≡◌, ℕ, List, [], ◌+◌, ◌*◌, ◌<◌, ◌∙◌, ◌&&◌, ap, get_or, length, sym, Some, true, arith, rules, subst₂}
 use Rattle.std.proofs.lemmas.Bool.Decides.{nat_tests}
 use Rattle.ssa_path.specs.View.{element_view}
 use Rattle.ssa_path.proofs.Combining.{heads-none}
@@ -9,7 +9,11 @@ use Rattle.ssa_typed.specs.Rows.{below, rows}
 use Rattle.ssa_typed.specs.Same.{AreLeft}
 use Rattle.ssa_typed.proofs.Differing.{past-both, past-lost, past-new, past-none}
 use Rattle.ssa_typed.proofs.DifferingAlike.{alike-all, alike-length, alike-more, alike-none, alike-other, alike-own, alike-repeats}
+use Rattle.ssa_typed.specs.declared.node.Node.{Node}
+use Rattle.ssa_typed.proofs.Building.{Child}
 use Rattle.ssa_typed.proofs.DifferingLeft.{none-left-repeats, none-left-unchanged, past-all}
+use Rattle.ssa_typed.proofs.Levels.{level-below}
+use Rattle.ssa_typed.proofs.SameItems.{left-trees, other-left-trees}
 use Rattle.ssa_typed.proofs.Left.{left-more, left-nothing, left-ordered, left-other, left-own}
 use Rattle.ssa_typed.proofs.Lookups.{tree-child}
 use Rattle.ssa_typed.proofs.OverNodes.{ok-gives}
@@ -234,6 +238,44 @@ push_items-returns-then-is_empty-2-clause-told t c =
 pub push_items-returns-then-is_empty-2-clause-repeats : goal.push_items-returns-then-is_empty-2-clause-repeats
 push_items-returns-then-is_empty-2-clause-repeats t c repeats =
     (repeats, none-left-repeats c.args.child.now.1 c.args.after.now c.requires.before c.requires.after c.requires.lists (no-items-left t c))
+
+-- what is left of both lists is left of both nodes
+left-below : (n m : Node) (cs ds own others : List Child) → cs ≡ below n → ds ≡ below m → AreLeft cs ds own others
+    → AreLeft (below n) (below m) own others
+left-below n m cs ds own others is other_is h = subst₂ (λ l k. AreLeft l k own others) is other_is h
+
+pub push_items-are_same_items-requires-clause-own : goal.push_items-are_same_items-requires-clause-own
+push_items-are_same_items-requires-clause-own t c =
+    let n = c.args.child.now.1 in
+    let m = c.args.after.now in
+    left-trees (below n) (below m) c.between_same.result.0.now c.between_same.result.1.now ((level-below n).trees c.requires.before)
+    (left-below n m _ _ _ _ c.children.ensures.own c.children-2.ensures.own c.between_same.ensures)
+
+pub push_items-are_same_items-requires-clause-others : goal.push_items-are_same_items-requires-clause-others
+push_items-are_same_items-requires-clause-others t c =
+    let n = c.args.child.now.1 in
+    let m = c.args.after.now in
+    other-left-trees (below n) (below m) c.between_same.result.0.now c.between_same.result.1.now ((level-below m).trees c.requires.after)
+    (left-below n m _ _ _ _ c.children.ensures.own c.children-2.ensures.own c.between_same.ensures)
+
+pub push_items-returns-then-branch-clause-told : goal.push_items-returns-then-branch-clause-told
+push_items-returns-then-branch-clause-told t c =
+    let n = c.args.child.now.1 in
+    let m = c.args.after.now in
+    let left = left-below n m _ _ _ _ c.children.ensures.own c.children-2.ensures.own c.between_same.ensures in
+    let none = left-more (below n) (below m) c.between_same.result.0.now c.between_same.result.1.now [] [] left
+    (c.in_ok-are_same_items.ensures c.if-branch.true) in
+    let unchanged = none-left-unchanged n m c.requires.before c.requires.after c.requires.lists none in
+    nothing-grown n m c.requires.before c.requires.after unchanged c.args.scope c.args.child.now.0 c.args.told.now
+
+pub push_items-returns-then-branch-clause-repeats : goal.push_items-returns-then-branch-clause-repeats
+push_items-returns-then-branch-clause-repeats t c repeats =
+    let n = c.args.child.now.1 in
+    let m = c.args.after.now in
+    let left = left-below n m _ _ _ _ c.children.ensures.own c.children-2.ensures.own c.between_same.ensures in
+    let none = left-more (below n) (below m) c.between_same.result.0.now c.between_same.result.1.now [] [] left
+    (c.in_ok-are_same_items.ensures c.if-branch.true) in
+    (repeats, none-left-repeats n m c.requires.before c.requires.after c.requires.lists none)
 
 pub push_branches-returns-clause-repeats : goal.push_branches-returns-clause-repeats
 push_branches-returns-clause-repeats t c =

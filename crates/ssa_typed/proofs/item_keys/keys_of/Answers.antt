@@ -9,4 +9,4 @@ pub unreachable-requires : goal.unreachable-requires
 unreachable-requires c =
     keys-some (names_view c.args.names.now) (fields_view c.args.fields.now.entries) (members_view c.args.members.now.entries) c.requires.fits.0
     c.requires.names c.requires.fits.1
-    (sym c.in-None.is ∙ c.in_ok-keys.ensures ∙ ap keys.keys_of c.in_ok-key_members.ensures)
+    (sym c.in-None.is ∙ c.new.ensures ∙ ap keys.keys_of c.in_ok-key_members.ensures)

@@ -1,8 +1,8 @@
 use Rattle.std.proofs.Common.{refl}
-use Rattle.ssa_typed.proofs.References.{few-rise, standing-order}
+use Rattle.ssa_typed.proofs.References.{standing-order}
 use Rattle.ssa_typed.proofs.ordered.items_in_order.Goals as goal
 
-pub returns-then-items-lt2 : goal.returns-then-items-lt2
-returns-then-items-lt2 c =
+pub returns-then-elements_rise : goal.returns-then-elements_rise
+returns-then-elements_rise c =
     let items = c.args.items.now in
-    standing-order items items items refl refl (few-rise items c.if-items-lt2.true)
+    standing-order items items items refl refl (c.elements_rise.ensures c.if-elements_rise.true)

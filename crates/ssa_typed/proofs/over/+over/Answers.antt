@@ -1,5 +1,5 @@
 use Rattle.std.specs.Option.{option_to_list}
-use Rattle.std.specs.List.{list_any}
+use Rattle.std.specs.List.{All, list_any}
 use Rattle.std.specs.Prelude.{filter}
 use Rattle.std.proofs.Common.{◌≡◌, ◌<◌, ◌+◌, ◌*◌, ◌++◌, ◌∷◌, List, length, drop, get_or, nat_eq, true, false, Some, Less, Equal, Greater, refl, sym, ap, subst, subst₂, ◌∙◌, arith, rules}
 use Rattle.ssa_model.specs.definitions.Kind.{is_among}
@@ -16,6 +16,7 @@ use Rattle.ssa_typed.proofs.Levels.{Children, rises-apart}
 use Rattle.ssa_typed.proofs.Lookups.{child-tree}
 use Rattle.ssa_typed.proofs.OverNodes.{below-Branch, below-Dict, below-List, children-alike, config-apart, config-trees, dict-over, dict-rises, leaf-over, list-over, live-entries-rise, live-fields-rise, left-over, live-smaller, ok-gives, order-live, over-live, record-over, record-rises}
 use Rattle.ssa_typed.proofs.Overlaying.{child-at-index}
+use Rattle.ssa_typed.proofs.Placed.{IsFound, as-many-told, next-there, next-told, placed-all, placed-over, placed-within}
 use Rattle.ssa_typed.proofs.Pairs.{other-there, overlaid-all, overlaid-more, overlaid-order, own-there, within}
 use Rattle.ssa_typed.proofs.SideBySide.{IsOverSoFar, heads-alike, over-both, over-copied, over-end, over-moved, over-start}
 use Rattle.ssa_typed.proofs.Sizes.{larger-children}
@@ -478,3 +479,74 @@ over_node-returns-in-List t c =
     ok-gives c.over_items.result c.over_items.ensures
     (λ h. left-over n m _ (TheVariants.List c.over_items.new.config) (rw (c.in-List.is, TheVariants.outs-List c.in-List.children) refl)
     (list-over n m c.requires.live c.requires.config c.requires.alike c.over_items.new.config _ is (over-live _ _ _ _ c.children-in-List.ensures.own h)))
+
+pub over_placed-index_mut-own-requires : goal.over_placed-index_mut-own-requires
+over_placed-index_mut-own-requires t c =
+    let v = c.loop-i.config in
+    let ds = c.args.config.now.items in
+    let many = as-many-told c.args.live.now ds c.args.places.now c.requires.places in
+    let there = placed-within c.args.live.now ds v.items c.loop-i.i (omega arith) c.loop-i.invariant in
+    omega (arith, there, v.ok.0)
+
+pub over_placed-bounds-live-place : goal.over_placed-bounds-live-place
+over_placed-bounds-live-place t c =
+    let cs = c.args.live.now in
+    let ds = c.args.config.now.items in
+    let many = as-many-told cs ds c.args.places.now c.requires.places in
+    let d = c.index_mut-own.result.now in
+    let told = next-told cs ds c.loop-i.config.items c.loop-i.i (omega arith) c.loop-i.invariant d c.index_mut-own.ensures.value c.args.places.now
+    c.requires.places c.unwrap-place.result c.unwrap-place.ensures in
+    place-within (element_view d.0) cs c.unwrap-place.result told
+
+pub over_placed-offset_bounds-live-place : goal.over_placed-offset_bounds-live-place
+over_placed-offset_bounds-live-place t c =
+    let cs = c.args.live.now in
+    let ds = c.args.config.now.items in
+    let many = as-many-told cs ds c.args.places.now c.requires.places in
+    let d = c.index_mut-own.result.now in
+    let told = next-told cs ds c.loop-i.config.items c.loop-i.i (omega arith) c.loop-i.invariant d c.index_mut-own.ensures.value c.args.places.now
+    c.requires.places c.unwrap-place.result c.unwrap-place.ensures in
+    let there = place-within (element_view d.0) cs c.unwrap-place.result told in
+    omega arith
+
+pub over_placed-over_node-requires : goal.over_placed-over_node-requires
+over_placed-over_node-requires t c =
+    let cs = c.args.live.now in
+    let ds = c.args.config.now.items in
+    let many = as-many-told cs ds c.args.places.now c.requires.places in
+    let d = c.index_mut-own.result.now in
+    let e = element_view d.0 in
+    let place = c.unwrap-place.result in
+    let told = next-told cs ds c.loop-i.config.items c.loop-i.i (omega arith) c.loop-i.invariant d c.index_mut-own.ensures.value c.args.places.now
+    c.requires.places c.unwrap-place.result c.unwrap-place.ensures in
+    let x = get_or cs place c.index-live-place.result in
+    let own : child_at e cs ≡ Some x.1 = placed-child e cs place c.index-live-place.result told in
+    let other = next-there cs ds c.loop-i.config.items c.loop-i.i c.requires.config_apart (omega arith) c.loop-i.invariant d c.index_mut-own.ensures.value in
+    let part = larger-children e cs x.1 own in
+    let small : 4 * length (rows x.1) < 4 * length (rows_below cs) + 1 = omega arith in (
+      search (rules, small),
+      (child-tree e cs x.1 c.requires.live own, (child-tree e ds d.1 c.requires.config other, c.requires.alike e x.1 d.1 own other)),
+    )
+
+pub over_placed-loop-i-preserved : goal.over_placed-loop-i-preserved
+over_placed-loop-i-preserved t c =
+    let cs = c.args.live.now in
+    let ds = c.args.config.now.items in
+    let many = as-many-told cs ds c.args.places.now c.requires.places in
+    let d = c.index_mut-own.result.now in
+    let e = element_view d.0 in
+    let place = c.unwrap-place.result in
+    let told = next-told cs ds c.loop-i.config.items c.loop-i.i (omega arith) c.loop-i.invariant d c.index_mut-own.ensures.value c.args.places.now
+    c.requires.places c.unwrap-place.result c.unwrap-place.ensures in
+    let x = get_or cs place c.index-live-place.result in
+    let own : child_at e cs ≡ Some x.1 = placed-child e cs place c.index-live-place.result told in
+    placed-over cs ds c.loop-i.config.items c.loop-i.i c.requires.config_apart (omega arith) c.loop-i.invariant d c.index_mut-own.ensures.value x.1
+    c.over_node.new.config _ own c.in_ok-over_node.ensures refl
+
+pub over_placed-returns : goal.over_placed-returns
+over_placed-returns t c =
+    let cs = c.args.live.now in
+    let ds = c.args.config.now.items in
+    let many = as-many-told cs ds c.args.places.now c.requires.places in
+    placed-all cs ds (subst (All IsFound) c.requires.places c.requires.found) c.loop-i.config.items c.loop-i.i c.requires.config_apart c.requires.many
+    (omega arith) c.loop-i.invariant

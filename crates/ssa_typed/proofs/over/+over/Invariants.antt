@@ -1,6 +1,7 @@
 use Rattle.std.proofs.Common.{◌+◌, ◌-◌, ◌*◌, drop, length}
 use Rattle.ssa_typed.specs.Rows.{rows, rows_below}
 use Rattle.ssa_typed.proofs.Pairs.{IsOverlaid}
+use Rattle.ssa_typed.proofs.Placed.{IsPlacedOver}
 use Rattle.ssa_typed.proofs.Refilling.{IsRefilling}
 use Rattle.ssa_typed.proofs.SideBySide.{IsOverSoFar}
 use Rattle.ssa_typed.proofs.over.+over.Given as goal
@@ -10,6 +11,9 @@ decreases-over_alike l = 4 * length (rows_below l.live.now) + 1
 
 abbrev pub decreases-over_found : goal.decreases-over_found
 decreases-over_found l = 4 * length (rows_below l.live.now) + 1
+
+abbrev pub decreases-over_placed : goal.decreases-over_placed
+decreases-over_placed l = 4 * length (rows_below l.live.now) + 1
 
 abbrev pub decreases-over_beside : goal.decreases-over_beside
 decreases-over_beside l = 4 * length (rows_below l.live.now) + 1
@@ -26,6 +30,10 @@ decreases-over_node l = 4 * length (rows l.live.now)
 abbrev pub invariant-over_alike-loop-i : goal.invariant-over_alike-loop-i
 invariant-over_alike-loop-i l =
     IsOverlaid l.live l.fn.config.items l.config.items l.i
+
+abbrev pub invariant-over_placed-loop-i : goal.invariant-over_placed-loop-i
+invariant-over_placed-loop-i l =
+    IsPlacedOver l.live l.fn.config.items l.config.items l.i
 
 abbrev pub invariant-over_found-loop-i : goal.invariant-over_found-loop-i
 invariant-over_found-loop-i l =

@@ -1,10 +1,9 @@
 use Rattle.std.proofs.Common.{◌≡◌, ◌<◌, Ok, ap, length, sym, subst, ◌∙◌}
 use Rattle.ssa_model.specs.definitions.Carry.{carry}
 use Rattle.ssa_model.specs.definitions.History as model
-use Rattle.ssa_model.specs.definitions.History.{last_state, past_len, present, with_timeline}
+use Rattle.ssa_model.specs.definitions.History.{last_state, past_len, present, with_timeline, preceded}
 use Rattle.ssa_model.specs.definitions.Operations.{State}
 use Rattle.ssa_model.specs.definitions.Valid.{IsValidHistory, KeepsOrder}
-use Rattle.ssa_model.specs.laws.LineByLine.{preceded}
 use Rattle.ssa_model.proofs.RecordTakes.{fixes_target}
 use Rattle.std.proofs.Common.{take}
 use Rattle.ssa_json.specs.View.{view}

@@ -6,7 +6,7 @@ use Rattle.ssa_model.specs.definitions.History.{present}
 use Rattle.ssa_model.specs.definitions.Json as model
 use Rattle.ssa_model.specs.definitions.Json.{compact, object, no_members, same_text}
 use Rattle.ssa_json.specs.View.{view, members_view}
-use Rattle.ssa_json.proofs.Views.{view-Object}
+use Rattle.ssa_json.specs.Views.{view-Object}
 use Rattle.ssa_bench.proofs.bench.Bench.is_first_line.Goals as goal
 
 pub returns : goal.returns

@@ -4,7 +4,7 @@ use Rattle.ssa_model.specs.definitions.History as model
 use Rattle.ssa_model.specs.definitions.History.{present}
 use Rattle.ssa_model.specs.definitions.Json.{compact, same_text}
 use Rattle.ssa_model.specs.definitions.Operations.{State}
-use Rattle.ssa_model.specs.laws.BenchFiles.{keeps_order}
+use Rattle.ssa_model.specs.definitions.BenchOfStates.{keeps_order}
 use Rattle.ssa_merge.specs.States.{state_view}
 use Rattle.ssa_bench.proofs.bench.Bench.is_next_line.Goals as goal
 

@@ -1,5 +1,5 @@
-use Rattle.ssa_model.specs.laws.BenchFiles.{schema_in}
-use Rattle.ssa_model.specs.laws.Formats.{file_head}
+use Rattle.ssa_model.specs.definitions.BenchOfStates.{schema_in}
+use Rattle.ssa_model.specs.definitions.BenchOfFile.{file_head}
 use Rattle.ssa_model.specs.laws.LineByLine.{shown_in}
 use Rattle.ssa_json.specs.Readings.{readings}
 use Rattle.ssa_file.specs.Heads.{head_view}

@@ -5,7 +5,7 @@ use Rattle.ssa_model.specs.definitions.Formats.{is_main_state}
 use Rattle.ssa_model.specs.definitions.History.{present}
 use Rattle.ssa_model.specs.definitions.Json.{compact, same_text}
 use Rattle.ssa_model.specs.definitions.Limits.{most_past}
-use Rattle.ssa_model.specs.laws.BenchFiles.{given_if, lone_in}
+use Rattle.ssa_model.specs.definitions.BenchOfStates.{given_if, lone_in}
 use Rattle.ssa_json.specs.Readings.{readings}
 use Rattle.ssa_json.specs.View.{view}
 use Rattle.ssa_model.proofs.LoneBenches.{lone-parts}

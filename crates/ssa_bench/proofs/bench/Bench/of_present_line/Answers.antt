@@ -3,9 +3,9 @@ use Rattle.ssa_model.specs.definitions.BenchText.{whole_object}
 use Rattle.ssa_model.specs.definitions.Formats.{can_tell_state}
 use Rattle.ssa_model.specs.definitions.History.{present}
 use Rattle.ssa_model.specs.definitions.Json.{compact, same_text}
-use Rattle.ssa_model.specs.laws.BenchFiles.{given_if}
+use Rattle.ssa_model.specs.definitions.BenchOfStates.{given_if}
 use Rattle.ssa_model.proofs.LoneBenches.{lone-parts}
-use Rattle.ssa_model.specs.laws.RecordedBenches.{present_in}
+use Rattle.ssa_model.specs.definitions.BenchOfRecords.{present_in}
 use Rattle.ssa_json.specs.Readings.{readings}
 use Rattle.ssa_json.specs.View.{view}
 use Rattle.ssa_file.specs.Recording.{format_view}

@@ -6,7 +6,7 @@ use Rattle.ssa_model.specs.definitions.Commands.{value_in}
 use Rattle.ssa_model.specs.definitions.History as model
 use Rattle.ssa_model.specs.definitions.History.{present}
 use Rattle.ssa_model.specs.definitions.Json.{compact, member_at, same_text}
-use Rattle.ssa_model.specs.laws.BenchFiles.{given_if, keeps_order, label_in, object_in}
+use Rattle.ssa_model.specs.definitions.BenchOfStates.{given_if, keeps_order, label_in, object_in}
 use Rattle.ssa_json.specs.Readings.{readings}
 use Rattle.ssa_json.specs.View.{view}
 use Rattle.ssa_merge.specs.States.{state_view}

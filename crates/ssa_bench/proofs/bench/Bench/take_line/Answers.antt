@@ -5,7 +5,7 @@ use Rattle.ssa_model.specs.definitions.Record.{record_of}
 use Rattle.ssa_model.specs.definitions.History as model
 use Rattle.ssa_model.specs.definitions.History.{appended, past_len, present, with_timeline}
 use Rattle.ssa_model.specs.definitions.Valid.{IsNextStep, IsValidHistory, IsValidState, KeepsOrder}
-use Rattle.ssa_model.specs.laws.BenchFiles.{step_in}
+use Rattle.ssa_model.specs.definitions.BenchOfStates.{step_in}
 use Rattle.ssa_model.proofs.ValidTimelines.{present_valid}
 use Rattle.ssa_json.specs.Readings.{readings}
 use Rattle.ssa_json.specs.View.{view}

@@ -1,6 +1,6 @@
 use Rattle.std.proofs.lemmas.Result.{on_ok_weaker}
 use Rattle.ssa_session.proofs.Effects.{runs-all, runs-whole, runs-partly}
-use Rattle.ssa_session.proofs.bench_session.session.Goals as goal
+use Rattle.ssa_session.proofs.bench_session.watched_session.Goals as goal
 
 pub returns-clause-ok : goal.returns-clause-ok
 returns-clause-ok g c = on_ok_weaker c.session.result (runs-all
