@@ -1,5 +1,5 @@
 -- The children of a place changed one after the other.
-use Rattle.std.proofs.Common.{◌≡◌, ℕ, zero, suc, ◌+◌, ◌<◌, ◌≤◌, List, [], ◌∷◌, ◌++◌, length, get_or, set, drop, take, Bool, true, false, cond, Option, Some, None, refl, sym, ap, ◌∙◌, arith, subst}
+use Rattle.std.proofs.Common.{◌≡◌, ℕ, zero, suc, ◌+◌, ◌<◌, ◌≤◌, List, [], ◌∷◌, ◌++◌, length, get_or, set, drop, take, Bool, true, false, cond, Option, Some, None, refl, sym, ap, ◌∙◌, append_assoc, arith, subst}
 use Rattle.std.proofs.lemmas.List.{take_all, take_more_set}
 use Rattle.ssa_model.specs.definitions.Path.{Element, Path, same_element}
 use Rattle.ssa_model.proofs.Fitting.{same_element-true}
@@ -9,11 +9,13 @@ use Rattle.ssa_path.specs.Trie.{are_filled_tries}
 use Rattle.ssa_path.specs.View.{element_view}
 use Rattle.ssa_path.specs.declared.element.Elem.{Elem}
 use Rattle.ssa_path.specs.declared.trie.Trie.{Trie}
-use Rattle.ssa_path.proofs.Lists.{elements-append, parted, parted-set, taken-at}
+use Rattle.ssa_path.proofs.Lists.{elements-append, left-at, parted, parted-set, taken-at}
 use Rattle.ssa_path.proofs.Searching.{child-found}
 use Rattle.ssa_edit_set.specs.declared.edit.Edit.{Edit}
 use Rattle.ssa_edit_set.specs.declared.edit.Edit.TheViews.{out-Edit}
 use Rattle.ssa_edit_set.specs.Edits.{coming, comings, ChildFits, EditFits, PlaceFits}
+use Rattle.ssa_turn_set.proofs.Reaching.{rises-front}
+use Rattle.ssa_edit_set.specs.Ring.{PassesBy}
 use Rattle.ssa_edit_set.specs.Turned.{ChildTurned, EditTurned, Places, PlaceTurned}
 use Rattle.ssa_edit_set.proofs.Others.{other-child}
 use Rattle.ssa_edit_set.proofs.Putting.{found-behind, in-the-middle, none-in-front}
@@ -118,6 +120,19 @@ module _ (rs : List (Elem × Edit)) (cs : List (Elem × Trie)) (i : ℕ) (ss : L
   -- there is room for it
   pub going-room : (capacity : ℕ) → length cs + comings rs ≤ capacity → length ds + coming (out-Edit r.1) ≤ capacity
   going-room capacity room = let c = h.counted in let one = coming-of ss i r lt is in omega arith
+
+  -- of those that are passed, none is behind it
+  pub next-passed : (ps : List (Elem × Trie)) → rises (elements ps ++ elements (drop i rs)) ≡ true → rises (elements ps ++ e ∷ []) ≡ true
+  next-passed ps passed =
+      rises-front (elements ps ++ e ∷ []) (elements (drop (i + 1) rs))
+      (ap rises (append_assoc (elements ps) (e ∷ []) (elements (drop (i + 1) rs)))
+      ∙ ap (λ l. rises (elements ps ++ elements l)) (sym (left-at rs i r within as_was)) ∙ passed)
+
+  -- and when it is passed, none of them is behind the next one
+  pub going-passed : (ps qs : List (Elem × Trie)) → PassesBy e ps qs → rises (elements ps ++ elements (drop i rs)) ≡ true
+      → rises (elements qs ++ elements (drop (i + 1) rs)) ≡ true
+  going-passed ps qs by passed =
+      by (elements (drop (i + 1) rs)) (ap (λ l. rises (elements ps ++ elements l)) (sym (left-at rs i r within as_was)) ∙ passed)
 
   -- with one more changed, the walk goes on
   pub going-next : (s : Elem × Edit) (es : List (Elem × Trie)) → s.0 ≡ r.0 → rises (elements es) ≡ true → are_filled_tries es ≡ true

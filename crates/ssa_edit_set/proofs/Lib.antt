@@ -4,6 +4,7 @@ pub mod Going
 pub mod Inner
 pub mod Made
 pub mod Others
+pub mod Passed
 pub mod Paths
 pub mod Putting
 pub mod RoomAsked

@@ -24,6 +24,11 @@ abbrev pub coming : Edit-F Edit → ℕ
 coming (Edit-F.Within f rs) = 0
 coming (Edit-F.Whole h) = coming_held h
 
+-- whether a place comes or goes
+abbrev pub is_whole : Edit-F Edit → Bool
+is_whole (Edit-F.Within f rs) = false
+is_whole (Edit-F.Whole h) = true
+
 -- how many of the children come
 abbrev pub comings : List (Elem × Edit) → ℕ
 comings [] = 0

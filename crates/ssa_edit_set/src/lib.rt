@@ -9,6 +9,7 @@ pub mod live_trie;
 pub mod making;
 mod moving;
 pub mod record;
+mod ring;
 pub mod set_edit;
 pub mod turning;
 

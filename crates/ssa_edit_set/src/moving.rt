@@ -1,12 +1,15 @@
 //! A child taken out of the children of a place, and one put among them, within their room.
-ghost use Rattle.std.specs.Prelude.{◌≡◌, ◌<◌, ◌≤◌, ◌+◌, true, false, None, Some, length, vec_capacity};
+ghost use Rattle.std.specs.Prelude.{◌≡◌, ◌<◌, ◌≤◌, ◌+◌, ◌++◌, [], ◌∷◌, true, false, None, Some, length, vec_capacity};
+ghost use Rattle.std.specs.VecDeque.{deque_capacity};
 ghost use Rattle.ssa_model.specs.definitions.Path.{Element, same_element};
 ghost use Rattle.ssa_path.specs.Children.{child_at, elements, rises, IsChildAt, IsGapFor};
 ghost use Rattle.ssa_path.specs.View.{element_view};
 ghost use Rattle.ssa_path.specs.Trie.{are_filled_tries, is_filled, is_trie};
 ghost use Rattle.ssa_edit_set.specs.Edits.{coming_held, WholeFits};
+ghost use Rattle.ssa_edit_set.specs.Ring.{passed, together, PassesBy};
 ghost use Rattle.ssa_edit_set.specs.Turned.{WholeTurned};
 
+use crate::ring::Ring;
 use ssa_path::children::{find, search};
 use ssa_path::element::Elem;
 use ssa_path::trie::Trie;
@@ -102,5 +105,27 @@ pub(crate) fn turn_whole(
     match held.take() {
         Some(child) => put_child(below, element, child),
         None => *held = Some(take_child(below, element)),
+    }
+}
+
+// The same in a ring, where none of the children that have been passed is behind this one.
+pub(crate) fn turn_next_whole(element: &Elem, held: &mut Option<(Elem, Trie)>, ring: &mut Ring)
+    requires rise { rises (elements (together ring.old)) ≡ true }
+    requires tries { are_filled_tries (together ring.old) ≡ true }
+    requires passed { rises (elements (passed ring.old) ++ element_view element.now ∷ []) ≡ true }
+    requires room { length (together ring.old) + coming_held held.old ≤ deque_capacity ring.old.children }
+    requires fits { WholeFits (element_view element.now) held.old (child_at (element_view element.now) (together ring.old)) }
+    ensures rise { rises (elements (together ring.new)) ≡ true }
+    ensures tries { are_filled_tries (together ring.new) ≡ true }
+    ensures passed { PassesBy (element_view element.now) (passed ring.old) (passed ring.new) }
+    ensures counted { length (together ring.new) + coming_held held.new ≡ length (together ring.old) + coming_held held.old }
+    ensures capacity { deque_capacity ring.new.children ≡ deque_capacity ring.old.children }
+    ensures turned { WholeTurned (element_view element.now) held.old (child_at (element_view element.now) (together ring.old))
+        held.new (child_at (element_view element.now) (together ring.new)) }
+    ensures others { (e : Element) → same_element e (element_view element.now) ≡ false → child_at e (together ring.new) ≡ child_at e (together ring.old) }
+{
+    match held.take() {
+        Some(child) => ring.put(element, child),
+        None => *held = Some(ring.take(element)),
     }
 }
