@@ -1,4 +1,6 @@
 pub mod Alike
+pub mod Changing
+pub mod Covering
 pub mod FitsBack
 pub mod Going
 pub mod Inner
@@ -7,7 +9,9 @@ pub mod Others
 pub mod Passed
 pub mod Paths
 pub mod Putting
+pub mod Recorded
 pub mod RoomAsked
 pub mod RoomLaws
 pub mod RoomMade
+pub mod Stays
 pub mod Whole

@@ -3,6 +3,7 @@ pub mod Turned
 pub mod Rooms
 pub mod Ring
 pub mod Carried
+pub mod Changes
 pub mod Making
 pub mod More
 pub mod Records

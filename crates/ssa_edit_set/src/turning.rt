@@ -21,7 +21,7 @@ use std::mem;
 
 // Whether the own path of a place is there afterwards.
 #[inline(always)]
-fn flipped(flips: bool, here: bool) -> bool
+pub(crate) fn flipped(flips: bool, here: bool) -> bool
     ensures { result ≡ flipped flips here }
 {
     if flips { !here } else { here }
