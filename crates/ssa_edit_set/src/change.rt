@@ -59,11 +59,7 @@ fn stays(place: &Trie, flips: bool, edits: &[(Elem, Edit)]) -> bool
 
 // What becomes of the children of a place where these paths change.
 #[cycle(change)]
-fn make_edits(
-    alloc: Global,
-    changed: &Trie,
-    place: &Trie,
-) -> Result<Vec<(Elem, Edit)>, AllocError>
+fn make_edits(alloc: Global, changed: &Trie, place: &Trie) -> Result<Vec<(Elem, Edit)>, AllocError>
     requires trie { is_trie place.now ≡ true }
     requires changed { is_trie changed.now ≡ true }
     ensures { IfOk result (λ v. EditsChange (out-Trie changed.now).here changed.now v.items place.now) }
