@@ -1,5 +1,6 @@
 pub mod Alike
 pub mod Changing
+pub mod Copied
 pub mod Covering
 pub mod FitsBack
 pub mod Going

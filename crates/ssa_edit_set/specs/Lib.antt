@@ -4,6 +4,7 @@ pub mod Rooms
 pub mod Ring
 pub mod Carried
 pub mod Changes
+pub mod Copies
 pub mod Making
 pub mod More
 pub mod Records

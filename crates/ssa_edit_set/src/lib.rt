@@ -5,6 +5,7 @@
 #![tactic(auto)]
 
 pub mod change;
+pub mod copying;
 pub mod edit;
 pub mod live_trie;
 pub mod making;
