@@ -65,7 +65,8 @@ module _ (R : Node → Node → Type 0) where
 pub same-length : (cs ds : List Child) → elements cs ≡ elements ds → length cs ≡ length ds
 same-length cs ds h = sym (length-elements cs) ∙ ap length h ∙ length-elements ds
 
-first-same : (x y : Child) (xs ys : List Child) → x ∷ xs ≡ y ∷ ys → x ≡ y
+-- equal lists have one first child
+pub first-same : (x y : Child) (xs ys : List Child) → x ∷ xs ≡ y ∷ ys → x ≡ y
 first-same x y xs ys h = cc
 
 -- equal lists have one head

@@ -4,14 +4,13 @@ use Rattle.std.specs.Prelude.{filter, is_some}
 use Rattle.std.specs.List.{All}
 use Rattle.std.proofs.lemmas.Grind.{drop_more_same}
 use Rattle.std.proofs.lemmas.List.{drop-set-lt, drop_more, get_or-map, length-map, take_all, take_more_set}
-use Rattle.std.proofs.lemmas.List.Elements.{All-head, All-nil, All-push, All-tail}
+use Rattle.std.proofs.lemmas.List.Elements.{All-head, All-push, All-tail}
 use Rattle.ssa_model.specs.definitions.Body.{joined, laid}
 use Rattle.ssa_model.specs.definitions.Kind.{is_among}
 use Rattle.ssa_model.specs.definitions.Path.{Element, same_element}
 use Rattle.ssa_model.proofs.Basics.{or_true}
 use Rattle.ssa_model.proofs.Joining.{laid-moves}
 use Rattle.ssa_model.proofs.Tables.{true_or, element-itself as same_element-itself}
-use Rattle.ssa_model.proofs.Tests.{filter-kept}
 use Rattle.ssa_path.specs.Children.{child_at, elements}
 use Rattle.ssa_path.specs.View.{element_view}
 use Rattle.ssa_path.proofs.Lists.{length-elements}
@@ -23,7 +22,8 @@ use Rattle.ssa_typed.proofs.AsMany.{among-found, among-not-found, no-other, of-f
 use Rattle.ssa_typed.proofs.Building.{Child}
 use Rattle.ssa_typed.proofs.LivePlaces.{read-alike, told-at}
 use Rattle.ssa_typed.proofs.Overlaying.{child-at-index}
-use Rattle.ssa_typed.proofs.Pairs.{none-pass}
+use Rattle.ssa_typed.proofs.Pairs.{first-same, none-pass}
+use Rattle.ssa_typed.proofs.Reached.{all-pass}
 use Rattle.ssa_typed.proofs.Refilling.{AllOver, IsOneOver, all-over, one-over}
 use Rattle.ssa_typed.proofs.SortedOut.{elements-places}
 
@@ -37,13 +37,6 @@ laid-all moves (e ∷ es) [] all long = absurd (omega arith)
 laid-all moves (e ∷ es) (f ∷ fs) all long =
     laid-moves moves e es fs f (all e (true_or (same_element e e) (is_among e es) (same_element-itself e)))
     ∙ ap (λ l. f ∷ l) (laid-all moves es fs (λ x among. all x (or_true (same_element x e) (is_among x es) among)) (omega arith))
-
--- where all of the elements pass the test, all are left
-all-pass : (test : Element → Bool) (es : List Element) → ((e : Element) → is_among e es ≡ true → test e ≡ true) → filter test es ≡ es
-all-pass test [] all = refl
-all-pass test (e ∷ es) all =
-    filter-kept test e es (all e (true_or (same_element e e) (is_among e es) (same_element-itself e)))
-    ∙ ap (λ l. e ∷ l) (all-pass test es (λ x among. all x (or_true (same_element x e) (is_among x es) among)))
 
 -- an order joined with another of the same elements is that
 pub joined-all : (es fs : List Element) → length es ≡ length fs → ((e : Element) → is_among e es ≡ true → is_among e fs ≡ true)
@@ -65,12 +58,6 @@ pub record IsPlacedOver (cs ds xs : List Child) (i : ℕ) : Type 0 where
   pub made : All (IsOneOver cs ds) (take i xs)
   pub left : drop i xs ≡ drop i ds
   pub same : elements xs ≡ elements ds
-
-pub placed-none : (cs ds : List Child) → IsPlacedOver cs ds ds 0
-placed-none cs ds = record { made = All-nil (IsOneOver cs ds); left = refl; same = refl }
-
-first-same : (x y : Child) (xs ys : List Child) → x ∷ xs ≡ y ∷ ys → x ≡ y
-first-same x y xs ys h = cc
 
 -- as much is told as there are children
 pub as-many-told : (cs ds : List Child) (found : List (Option ℕ)) → found ≡ live_places cs ds → length found ≡ length ds
